@@ -1,0 +1,16 @@
+pub mod InsertCases
+pub mod RemoveCases
+pub mod Fusing
+pub mod Listings
+pub mod Lookups
+pub mod InsertLaws
+pub mod RemoveLaws
+pub mod Reached
+pub mod Low
+pub mod InsertMade
+pub mod RemoveMade
+pub mod Reserves
+pub mod Edits
+pub mod Ranges
+pub mod Extremes
+pub mod Orders

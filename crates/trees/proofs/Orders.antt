@@ -1,0 +1,83 @@
+-- Comparison is an order: it answers 0 for equal listings only, and the opposite the other way round.
+use Prim.Native.Nat.{ℕ, _<_}
+use mathlib.Core.Path.{_≡_, refl, sym, ap, _∙_}
+use mathlib.Core.Bool.{Bool, true, false, true≢false}
+use mathlib.Core.List.{List, [], _∷_}
+use native.Mathlib.Omega.{arith}
+use lib.Dec.{ltb}
+use borrow.Author.Tests.{lt-ltb, le-ltb}
+use Rattle.heights.specs.Choice.{if_then_else_}
+use Rattle.heights.proofs.Choices.{compared, compared₂}
+use Rattle.trees.specs.Tree.{Entry}
+use Rattle.trees.specs.Order.{Sign, less, same, more, compareNumbers, _andThen_, compareEntries, compare, isSame, equal}
+
+abbrev pub opposite : Sign → Sign
+opposite less = more
+opposite same = same
+opposite more = less
+
+numbers-opposite : (a b : ℕ) → compareNumbers b a ≡ opposite (compareNumbers a b)
+numbers-opposite a b =
+    compared
+    (λ (s : Sign). compareNumbers b a ≡ opposite s)
+    a
+    b
+    (λ h. rw (le-ltb b a (omega arith), lt-ltb a b h))
+    (λ h. rw (lt-ltb b a h))
+    (λ h. rw (le-ltb b a (omega arith), le-ltb a b (omega arith)))
+
+numbers-equal : (a b : ℕ) → isSame (compareNumbers a b) ≡ true → a ≡ b
+numbers-equal a b =
+    compared
+    (λ (s : Sign). isSame s ≡ true → a ≡ b)
+    a
+    b
+    (λ h e. absurd (true≢false (sym e)))
+    (λ h e. absurd (true≢false (sym e)))
+    (λ h e. h)
+
+numbers-self : (a : ℕ) → compareNumbers a a ≡ same
+numbers-self a = rw (le-ltb a a (omega arith))
+
+then-opposite : (s t : Sign) → opposite s andThen opposite t ≡ opposite (s andThen t)
+then-opposite less t = refl
+then-opposite same t = refl
+then-opposite more t = refl
+
+then-same : (s t : Sign) → isSame (s andThen t) ≡ true → (isSame s ≡ true) × (isSame t ≡ true)
+then-same less t h = absurd (true≢false (sym h))
+then-same same t h = (refl, h)
+then-same more t h = absurd (true≢false (sym h))
+
+pub compare-opposite : (xs ys : List Entry) → compare ys xs ≡ opposite (compare xs ys)
+compare-opposite [] [] = refl
+compare-opposite [] (f ∷ ys) = refl
+compare-opposite (e ∷ xs) [] = refl
+compare-opposite (e ∷ xs) (f ∷ ys) =
+    rw
+    (numbers-opposite (e .key) (f .key), numbers-opposite (e .value) (f .value), compare-opposite xs ys)
+    (ap (λ (s : Sign). s andThen opposite (compare xs ys)) (then-opposite (compareNumbers (e .key) (f .key)) (compareNumbers (e .value) (f .value))) ∙
+    then-opposite (compareEntries e f) (compare xs ys))
+
+pub compare-self : (xs : List Entry) → compare xs xs ≡ same
+compare-self [] = refl
+compare-self (e ∷ xs) = rw (numbers-self (e .key), numbers-self (e .value)) (compare-self xs)
+
+entry-equal : (e f : Entry) → e .key ≡ f .key → e .value ≡ f .value → e ≡ f
+entry-equal e f k v =
+    ap (λ (a : ℕ). record { key = a; value = e .value }) k ∙ ap (λ (b : ℕ). record { key = f .key; value = b }) v
+
+-- "Equal means compare 0", and compare 0 means the same entries.
+pub equal-is : (xs ys : List Entry) → equal xs ys ≡ true → xs ≡ ys
+equal-is [] [] h = refl
+equal-is [] (f ∷ ys) h = absurd (true≢false (sym h))
+equal-is (e ∷ xs) [] h = absurd (true≢false (sym h))
+equal-is (e ∷ xs) (f ∷ ys) h =
+    let a = then-same (compareEntries e f) (compare xs ys) h in
+    let b = then-same (compareNumbers (e .key) (f .key)) (compareNumbers (e .value) (f .value)) (a .0) in
+    let h = entry-equal e f (numbers-equal (e .key) (f .key) (b .0)) (numbers-equal (e .value) (f .value) (b .1)) in
+    let t = equal-is xs ys (a .1) in
+    cc
+
+pub is-equal : (xs ys : List Entry) → xs ≡ ys → equal xs ys ≡ true
+is-equal xs ys e = rw (← e, compare-self xs)

@@ -1,0 +1,86 @@
+-- The arms that 000 marks `unreachable!` are never reached on red-black trees, and every `unwrap` that no test before it guards finds a node.
+use Prim.Native.Nat.{ℕ, suc}
+use mathlib.Core.Path.{_≡_, refl, sym, _∙_}
+use mathlib.Core.Bool.{Bool, true, false, _&&_, true≢false}
+use Rattle.trees.specs.Tree.{Entry, Tree, leaf, node, isRed, isBlack}
+use Rattle.trees.specs.Shape.{Rb, rb-leaf, rb-red, rb-black}
+use Rattle.trees.proofs.RemoveCases.{Left, Right, Fuse, Del, deleted}
+use Rattle.trees.proofs.RemoveLaws.{not-red-black, near-not-red, rb-Fuse}
+use Rattle.trees.specs.Remove.{del}
+
+-- A run of the steps in which no such arm is taken. The only `unwrap`s that no test guards are in the third arms of `remove_balance_left`
+-- and `_right`: the far child of a red sibling, d.
+unfoldable pub Clean-Left : {l r u : Tree} {e : Entry} → Left l e r u → Type 0
+Clean-Left Left.red-left = Unit {0}
+Clean-Left (Left.black-right h g) = Unit {0}
+Clean-Left (Left.red-right {d = d} h g) = isBlack d ≡ true
+Clean-Left (Left.stuck h i) = ⊥
+
+unfoldable pub Clean-Right : {l r u : Tree} {e : Entry} → Right l e r u → Type 0
+Clean-Right Right.red-right = Unit {0}
+Clean-Right (Right.black-left h g) = Unit {0}
+Clean-Right (Right.red-left {d = d} h g) = isBlack d ≡ true
+Clean-Right (Right.stuck h i) = ⊥
+
+unfoldable pub Clean-Fuse : {l r u : Tree} → Fuse l r u → Type 0
+Clean-Fuse Fuse.no-left = Unit {0}
+Clean-Fuse Fuse.no-right = Unit {0}
+Clean-Fuse (Fuse.black-red g) = Clean-Fuse g
+Clean-Fuse (Fuse.red-black g) = Clean-Fuse g
+Clean-Fuse (Fuse.middle g) = Clean-Fuse g
+Clean-Fuse (Fuse.red-red h g) = Clean-Fuse g
+Clean-Fuse (Fuse.black-black h g s) = Clean-Fuse g × Clean-Left s
+
+unfoldable pub Clean-Del : {k : ℕ} {t u : Tree} → Del k t u → Type 0
+Clean-Del Del.none = Unit {0}
+Clean-Del (Del.here h g) = Clean-Fuse g
+Clean-Del (Del.left h b g) = Clean-Del g
+Clean-Del (Del.left-black h g s) = Clean-Del g × Clean-Left s
+Clean-Del (Del.right h b g) = Clean-Del g
+Clean-Del (Del.right-black h g s) = Clean-Del g × Clean-Right s
+
+clean-Left : {n : ℕ} {l r u : Tree} {e : Entry} (g : Left l e r u) → Rb (suc n) r → Clean-Left g
+unfolding Clean-Left
+clean-Left Left.red-left a = tt
+clean-Left (Left.black-right h g) a = tt
+clean-Left (Left.red-right h g) (rb-red i j b d) = not-red-black j d
+clean-Left (Left.stuck h i) (rb-red j k b c) = true≢false (sym (not-red-black j b) ∙ i)
+clean-Left (Left.stuck h i) (rb-black b c) = true≢false h
+
+clean-Right : {n : ℕ} {l r u : Tree} {e : Entry} (g : Right l e r u) → Rb (suc n) l → Clean-Right g
+unfolding Clean-Right
+clean-Right Right.red-right a = tt
+clean-Right (Right.black-left h g) a = tt
+clean-Right (Right.red-left h g) (rb-red i j d b) = not-red-black i d
+clean-Right (Right.stuck h i) (rb-red j k b c) = true≢false (sym (not-red-black k c) ∙ i)
+clean-Right (Right.stuck h i) (rb-black b c) = true≢false h
+
+clean-Fuse : {n : ℕ} {l r u : Tree} (g : Fuse l r u) → Rb n l → Rb n r → Clean-Fuse g
+unfolding Clean-Fuse
+clean-Fuse Fuse.no-left a b = tt
+clean-Fuse Fuse.no-right a b = tt
+clean-Fuse (Fuse.black-red g) a (rb-red h i b c) = clean-Fuse g a b
+clean-Fuse (Fuse.red-black g) (rb-red h i a b) c = clean-Fuse g b c
+clean-Fuse (Fuse.middle g) (rb-red h i a b) (rb-red j k c d) = clean-Fuse g b c
+clean-Fuse (Fuse.middle g) (rb-black a b) (rb-black c d) = clean-Fuse g b c
+clean-Fuse (Fuse.red-red q g) (rb-red h i a b) (rb-red j k c d) = clean-Fuse g b c
+clean-Fuse (Fuse.black-black q g s) (rb-black a b) (rb-black c d) =
+    (clean-Fuse g b c, clean-Left s (rb-black (near-not-red q (rb-Fuse g b c .0)) d))
+
+pub clean-Del : {k n : ℕ} {t u : Tree} (g : Del k t u) → Rb n t → Clean-Del g
+unfolding Clean-Del
+clean-Del Del.none a = tt
+clean-Del (Del.here h g) (rb-red i j a b) = clean-Fuse g a b
+clean-Del (Del.here h g) (rb-black a b) = clean-Fuse g a b
+clean-Del (Del.left h q g) (rb-red i j a b) = clean-Del g a
+clean-Del (Del.left h q g) (rb-black a b) = clean-Del g a
+clean-Del (Del.left-black h g s) (rb-red i j (rb-black a b) c) = (clean-Del g (rb-black a b), clean-Left s c)
+clean-Del (Del.left-black h g s) (rb-black (rb-black a b) c) = (clean-Del g (rb-black a b), clean-Left s c)
+clean-Del (Del.right h q g) (rb-red i j a b) = clean-Del g b
+clean-Del (Del.right h q g) (rb-black a b) = clean-Del g b
+clean-Del (Del.right-black h g s) (rb-red i j a (rb-black b c)) = (clean-Del g (rb-black b c), clean-Right s a)
+clean-Del (Del.right-black h g s) (rb-black a (rb-black b c)) = (clean-Del g (rb-black b c), clean-Right s a)
+
+-- Whatever key is removed from a red-black tree.
+pub never-stuck : {n : ℕ} (k : ℕ) (t : Tree) → Rb n t → Clean-Del (deleted k t)
+never-stuck k t a = clean-Del (deleted k t) a

@@ -1,0 +1,9 @@
+pub mod Tree
+pub mod Shape
+pub mod Listing
+pub mod Edit
+pub mod Range
+pub mod Order
+pub mod Lookup
+pub mod Insert
+pub mod Remove

@@ -1,0 +1,74 @@
+-- Document 01, "Walk": two-ended ranges, as steps over a listing.
+use Prim.Native.Nat.{ℕ}
+use mathlib.Core.Bool.{Bool, true, false, _&&_}
+use mathlib.Core.List.{List, [], _∷_}
+use mathlib.Core.Option.{Option, none, some}
+use lib.Dec.{ltb, leb}
+use Rattle.heights.specs.Choice.{if_then_else_}
+use Rattle.trees.specs.Tree.{Entry}
+use Rattle.trees.specs.Listing.{firstOf, lastOf}
+
+-- "each included, excluded or none", by 000's names
+pub data Bound : Type 0 where
+  included excluded : ℕ → Bound
+  unbounded : Bound
+
+pub data End : Type 0 where
+  front back : End
+
+-- "two bounds .., the last key given at the front, if any, and at the back, if any"
+pub record Range : Type 0 where
+  pub start : Bound
+  pub end : Bound
+  pub given-front : Option ℕ
+  pub given-back : Option ℕ
+
+-- A key in range: not before the start, not after the end.
+abbrev pub fromStart : Bound → ℕ → Bool
+fromStart (included a) k = leb a k
+fromStart (excluded a) k = ltb a k
+fromStart unbounded k = true
+
+abbrev pub toEnd : Bound → ℕ → Bool
+toEnd (included b) k = leb k b
+toEnd (excluded b) k = ltb k b
+toEnd unbounded k = true
+
+-- "above the former", "below the latter": a last key is excluded, and none given bounds nothing.
+abbrev pub past : Option ℕ → Bound
+past none = unbounded
+past (some a) = excluded a
+
+-- "in range that is above the former and below the latter"
+abbrev pub afterFront : Range → ℕ → Bool
+afterFront w k = fromStart (w .start) k && fromStart (past (w .given-front)) k
+
+abbrev pub beforeBack : Range → ℕ → Bool
+beforeBack w k = toEnd (w .end) k && toEnd (past (w .given-back)) k
+
+abbrev pub remains : Range → Entry → Bool
+remains w e = afterFront w (e .key) && beforeBack w (e .key)
+
+abbrev pub keep : (Entry → Bool) → List Entry → List Entry
+keep p [] = []
+keep p (e ∷ xs) = if p e then e ∷ keep p xs else keep p xs
+
+-- "A front step answers the least entry ..; a back step the greatest."
+abbrev pub next : End → Range → List Entry → Option Entry
+next front w xs = firstOf (keep (remains w) xs)
+next back w xs = lastOf (keep (remains w) xs)
+
+-- What the caller keeps after a step that gave e.
+abbrev pub stepped : End → Range → Entry → Range
+stepped front w e = record { start = w .start; end = w .end; given-front = some (e .key); given-back = w .given-back }
+stepped back w e = record { start = w .start; end = w .end; given-front = w .given-front; given-back = some (e .key) }
+
+-- "a walk's start and end are equal and both excluded, or start is above end (both ends given)"
+abbrev pub badRange : Bound → Bound → Bool
+badRange unbounded e = false
+badRange (included a) unbounded = false
+badRange (included a) (included b) = ltb b a
+badRange (included a) (excluded b) = ltb b a
+badRange (excluded a) unbounded = false
+badRange (excluded a) (included b) = ltb b a
+badRange (excluded a) (excluded b) = leb b a
