@@ -26,8 +26,11 @@ fn write_modules() -> Result<(), String> {
     let map = known(&folder, MAP)?;
     // `utils` also has a hasher for rpds's other collections, which nothing here uses.
     let text = format!(
-        "#[allow(dead_code)]\n#[path = {utils:?}]\nmod utils;\n\
-         pub mod map {{\n    #[path = {entry:?}]\n    pub(crate) mod entry;\n    #[path = {map:?}]\n    pub mod red_black_tree_map;\n}}\n"
+        "#[allow(dead_code)] #[path = {utils:?}] mod utils;\n\
+         pub mod map {{\n    \
+             #[path = {entry:?}] pub(crate) mod entry;\n    \
+             #[path = {map:?}] pub mod red_black_tree_map;\n\
+         }}\n"
     );
     let out = env::var("OUT_DIR").map_err(|error| error.to_string())?;
     fs::write(Path::new(&out).join("modules.rs"), text).map_err(|error| error.to_string())

@@ -14,3 +14,4 @@ pub mod Edits
 pub mod Ranges
 pub mod Extremes
 pub mod Orders
+pub mod Worked

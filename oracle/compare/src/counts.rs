@@ -1,4 +1,5 @@
 //! How much was compared.
+use crate::exhaustive::MOST;
 use std::fmt::{self, Display, Formatter};
 
 #[derive(Default)]
@@ -26,9 +27,10 @@ impl Display for Counts {
             calls, shapes, shape_calls, inserts_new, inserts_replacing, removes_present, removes_absent, ..
         } = self;
         let Counts { largest, nodes, lookups, walks, range_steps, bad_ranges, comparisons, rereadings, .. } = self;
+        writeln!(f, "{calls} calls in histories of up to {largest} entries")?;
         writeln!(
             f,
-            "{calls} calls in histories of up to {largest} entries; {shape_calls} calls on all {shapes} small shapes that calls reach"
+            "{shape_calls} calls on the {shapes} shapes of up to {MOST} entries that calls reach, every call on each"
         )?;
         writeln!(f, "{inserts_new} inserts of a new key, {inserts_replacing} of a key that is there")?;
         writeln!(f, "{removes_present} removes of a key that is there, {removes_absent} of one that is not")?;

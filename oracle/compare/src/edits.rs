@@ -23,9 +23,9 @@ pub fn compare(parent: &Version, change: Edit, counts: &mut Counts) -> Outcome<V
 
 fn compare_child(parent: &Version, change: Edit, child: &Version) -> Outcome {
     let found = child.seen.tree(&parent.numbers);
-    same_tree(&found, &edit(change, &parent.tree))?;
     same("listing", &child.listing, &edited(change, &parent.listing))?;
-    same("listing of the nodes", &listing(&found), &child.listing)?;
+    same("listing of the nodes", &listing(&found), &edited(change, &parent.listing))?;
+    same_tree(&found, &edit(change, &parent.tree))?;
     same("size", child.map.size(), size(&found))?;
     same("size in the fields", child.seen.size, size(&found))?;
     laws::hold(parent, change, child, &found)

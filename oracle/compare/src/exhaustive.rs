@@ -14,7 +14,7 @@ use steps::range::Bound;
 use steps::tree::{Color, Entry, Tree};
 
 /// The most entries of the shapes.
-const MOST: usize = 12;
+pub const MOST: usize = 12;
 
 /// The most entries where every pair of bounds is tried.
 const MOST_FOR_RANGES: usize = 6;
@@ -54,14 +54,14 @@ fn colors(t: &Tree) -> String {
 /// A set and a cut of each key, and of a key in each gap between them, as long as the size allows it.
 fn changes(version: &Version) -> Outcome<Vec<Edit>> {
     let mut changes = Vec::new();
-    let set = |key| Edit::Setting(Entry { key, value: key / 3 });
-    for key in version.keys() {
-        changes.extend([set(key), Edit::Cutting(key)]);
+    let set = |key, value| Edit::Setting(Entry { key, value });
+    for e in &version.listing {
+        changes.extend([set(e.key, e.value + 1), Edit::Cutting(e.key)]);
     }
     for key in gaps(version)? {
         changes.push(Edit::Cutting(key));
         if version.listing.len() < MOST {
-            changes.push(set(key));
+            changes.push(set(key, key / 3));
         }
     }
     Ok(changes)

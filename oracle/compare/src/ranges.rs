@@ -22,18 +22,20 @@ pub fn compare_any(version: &Version, random: &mut Random, counts: &mut Counts) 
     compare(version, start, end, random, counts)
 }
 
+/// rpds refuses exactly the bad ranges; any other is walked.
 pub fn compare(version: &Version, start: Bound, end: Bound, random: &mut Random, counts: &mut Counts) -> Outcome {
-    let outcome = match bad_range(start, end) {
-        true => refuse(version, start, end, counts),
-        false => walk(version, start, end, random, counts),
-    };
-    outcome.map_err(|message| format!("range {start:?} to {end:?} of {:?}: {message}", version.keys()))
+    compare_refusal(version, start, end, counts)
+        .and_then(|bad| if bad { Ok(()) } else { walk(version, start, end, random, counts) })
+        .map_err(|message| format!("range {start:?} to {end:?} of {:?}: {message}", version.keys()))
 }
 
-fn refuse(version: &Version, start: Bound, end: Bound, counts: &mut Counts) -> Outcome {
-    counts.bad_ranges += 1;
+/// Whether the range is bad, and so refused by a panic of rpds's.
+fn compare_refusal(version: &Version, start: Bound, end: Bound, counts: &mut Counts) -> Outcome<bool> {
+    let bad = bad_range(start, end);
     let refused = quiet::panics(|| drop(version.map.range::<u32, _>((of_rust(start), of_rust(end)))));
-    same("refused", refused, true)
+    same("refused", refused, bad)?;
+    counts.bad_ranges += u64::from(bad);
+    Ok(bad)
 }
 
 /// Steps at either end by chance, until both ends have answered twice that nothing is left.

@@ -11,7 +11,7 @@ pub fn below(k: u32, list: &[Entry]) -> bool {
     list.iter().all(|e| e.key < k)
 }
 
-/// Listing.antt: Ascending; each is below the next, which for numbers says the same as below all that follow, and sooner.
+/// Listing.antt: Ascending; being below the next is being below all that follow, as those ascend too, and found sooner.
 pub fn ascending(list: &[Entry]) -> bool {
     match list {
         [] => true,
