@@ -47,6 +47,18 @@ unfolding H
 H-log zero h = (0, refl, omega arith)
 H-log (suc n) h = (lg (suc n + 1), refl, lg-log (suc n + 1) (omega arith) (omega arith) .high)
 
+-- A size below a power of two has a height below twice its exponent.
+pub H-below : (n e : ℕ) → n < 2 ^ 32 - 1 → n + 1 < 2 ^ suc e → H n ≤ 2 * e
+unfolding H
+H-below zero e h l = omega arith
+H-below (suc n) e h l = go (decLe (lg (suc n + 1)) e)
+  where
+    go : Dec (lg (suc n + 1) ≤ e) → 2 * lg (suc n + 1) ≤ 2 * e
+    go (yes b) = omega arith
+    go (no b) =
+        let m : suc e ≤ lg (suc n + 1) = omega arith in
+        absurd (omega (arith, pow-mono m, lg-log (suc n + 1) (omega arith) (omega arith) .low))
+
 -- What the two functions of src/ are held to.
 
 pub few-zeros : {n : ℕ} → 0 < n → Fits w32 n → leadingZeros 32 n ≤ 31

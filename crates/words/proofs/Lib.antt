@@ -1,0 +1,14 @@
+pub mod Counts
+pub mod Stores
+pub mod Holding
+pub mod OwnedLaws
+pub mod Changes
+pub mod Recounting
+pub mod Freeing
+pub mod Making
+pub mod Releasing
+pub mod Slotting
+pub mod OwnedSound
+pub mod SoundOwned
+pub mod Bounds
+pub mod FreeNumber

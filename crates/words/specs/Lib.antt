@@ -1,0 +1,6 @@
+pub mod Layout
+pub mod Counting
+pub mod Reads
+pub mod Sound
+pub mod Owned
+pub mod Model
