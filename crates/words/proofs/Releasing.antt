@@ -115,7 +115,7 @@ module _ (Valid : ℕ → Tree → ℕ → Type 0) (n v : ℕ) where
         }
 
   -- Two releases in a row.
-  in-turn : (R R' a b c : List ℕ) → Released Valid n v R a b → Released Valid n v R' b c → Released Valid n v R' a c
+  pub in-turn : (R R' a b c : List ℕ) → Released Valid n v R a b → Released Valid n v R' b c → Released Valid n v R' a c
   in-turn R R' a b c x y =
       record {
         owned = y .owned;
