@@ -1,11 +1,17 @@
 -- The stores of `count_up` and `make_node` are their models.
 use mathlib.Core.Path.{_≡_, refl}
+use mathlib.Core.Logic.{_⊎_, inl, inr}
 use mathlib.Core.List.{List, [], _∷_}
-use Prim.Native.Nat.{ℕ, zero, suc, _+_, _*_}
-use lib.ListN.{getD, set}
-use Rattle.trees.specs.Tree.{Color}
+use Prim.Native.Nat.{ℕ, zero, suc, _+_, _*_, _^_, _<_}
+use native.Mathlib.Omega.{arith}
+use lib.ListN.{length, getD, set}
+use Rattle.trees.specs.Tree.{Color, Tree}
 use Rattle.words.specs.Layout.{head, left, count, code, nodeWords, headWord, keyWord, leftWord}
+use Rattle.words.specs.Owned.{Live, Owned}
 use Rattle.words.specs.Model.{storing, withCount, raising, making}
+use Rattle.words.proofs.OwnedLaws.{count-small}
+use Rattle.words.proofs.Recounting.{owned-long}
+use Rattle.arena.specs.Nodes.{Raisable}
 
 pub raised-none : (ws : List ℕ) (i : ℕ) → i ≡ 0 → ws ≡ raising ws i
 unfolding raising
@@ -21,3 +27,15 @@ pub written-is : (ws : List ℕ) (i k v l r x : ℕ) → i ≡ head ws → (c : 
     ≡ making ws c l (record { key = k; value = v }) r
 unfolding making left head
 written-is ws i k v l r x e c h = rw (e, h)
+
+-- "at most 2·N + V names": the count of a link that a call may raise stays far below what 32 bits hold.
+pub owned-raisable : (Valid : ℕ → Tree → ℕ → Type 0) (n v : ℕ) (ws P : List ℕ) (i : ℕ) → Owned Valid n v ws P → (i ≡ 0) ⊎ Live n ws i →
+    length P < 2 ^ 31 → Raisable ws i
+owned-raisable Valid n v ws P i o (inl e) h =
+    record { inside = omega (arith, owned-long Valid n v ws P o); room = λ p. absurd (omega arith) }
+owned-raisable Valid n v ws P i o (inr l) h =
+    let b = o .shaped .limits in
+    record {
+      inside = omega (arith, owned-long Valid n v ws P o, l .1);
+      room = λ p. omega (arith, count-small Valid n v ws P o i p (l .1), b .n-high, b .v-high)
+    }
