@@ -1,0 +1,3 @@
+pub mod Descents
+pub mod Limits
+pub mod Versions

@@ -1,0 +1,238 @@
+// Module 3 of document 01's port order, and the descents of its module 8: lookups over node numbers, the remaining height falling.
+use arena::Entry;
+use arena::Node;
+use arena::node_at;
+ghost use mathlib.Core.Path.{_≡_};
+ghost use mathlib.Core.Option.{Option, none, some};
+ghost use Prim.Native.Nat.{ℕ, _≤_};
+ghost use Rattle.words.specs.Layout.{maxHeight};
+ghost use Rattle.trees.specs.Listing.{orElse};
+ghost use Rattle.trees.specs.Range.{fromStart, toEnd, past, afterFront, beforeBack, front as atFront, back as atBack};
+ghost use Rattle.trees.specs.Lookup.{get as getOf, first as firstIn, last as lastIn, least as leastOf, greatest as greatestOf, within as withinOf, step as stepOf};
+ghost use Rattle.arena.specs.Nodes.{entryOf};
+ghost use Rattle.lookup.specs.Finding.{foundOf, boundOf, lastOf, rangeOf, Rooted, Finds};
+
+// No version is taller: H(2,047).
+const MAX_HEIGHT: u32 = 22;
+
+// The entry that was looked for, if there is one.
+pub enum Found {
+    At(Entry),
+    Nothing,
+}
+
+// An end of a range.
+pub enum Bound {
+    Included(u32),
+    Excluded(u32),
+    Unbounded,
+}
+
+// The last key that a walk gave at one of its ends, if any.
+pub enum LastKey {
+    Given(u32),
+    NotGiven,
+}
+
+// What a walk keeps besides its slot.
+pub struct Range {
+    pub start: Bound,
+    pub end: Bound,
+    pub front: LastKey,
+    pub back: LastKey,
+}
+
+fn get_below(ws: &[u32], i: u32, key: u32, h: u32) -> Found
+    requires { ⌜ Rooted (now ws) i h ⌝ }
+    ensures { λ r. ⌜ Finds (now (ws .entry)) i r (getOf key) ⌝ }
+{
+    if i == 0 {
+        return Found::Nothing;
+    }
+    let d = node_at(ws, i);
+    let e = d.entry;
+    if key < e.key {
+        get_below(ws, d.left, key, h - 1)
+    } else if e.key < key {
+        get_below(ws, d.right, key, h - 1)
+    } else {
+        Found::At(e)
+    }
+}
+
+// The entry with the key, in the version whose root is the link i.
+pub fn get(ws: &[u32], i: u32, key: u32) -> Found
+    requires { ⌜ Rooted (now ws) i maxHeight ⌝ }
+    ensures { λ r. ⌜ Finds (now (ws .entry)) i r (getOf key) ⌝ }
+{
+    get_below(ws, i, key, MAX_HEIGHT)
+}
+
+fn or_else(f: Found, e: Entry) -> Found
+    ensures { λ r. ⌜ foundOf r ≡ orElse (foundOf f) (entryOf e) ⌝ }
+{
+    match f {
+        Found::At(x) => Found::At(x),
+        Found::Nothing => Found::At(e),
+    }
+}
+
+fn first_below(ws: &[u32], i: u32, h: u32) -> Found
+    requires { ⌜ Rooted (now ws) i h ⌝ }
+    ensures { λ r. ⌜ Finds (now (ws .entry)) i r firstIn ⌝ }
+{
+    if i == 0 {
+        return Found::Nothing;
+    }
+    let d = node_at(ws, i);
+    let e = d.entry;
+    let l = first_below(ws, d.left, h - 1);
+    or_else(l, e)
+}
+
+// The entry with the least key.
+pub fn first(ws: &[u32], i: u32) -> Found
+    requires { ⌜ Rooted (now ws) i maxHeight ⌝ }
+    ensures { λ r. ⌜ Finds (now (ws .entry)) i r firstIn ⌝ }
+{
+    first_below(ws, i, MAX_HEIGHT)
+}
+
+fn last_below(ws: &[u32], i: u32, h: u32) -> Found
+    requires { ⌜ Rooted (now ws) i h ⌝ }
+    ensures { λ r. ⌜ Finds (now (ws .entry)) i r lastIn ⌝ }
+{
+    if i == 0 {
+        return Found::Nothing;
+    }
+    let d = node_at(ws, i);
+    let e = d.entry;
+    let r = last_below(ws, d.right, h - 1);
+    or_else(r, e)
+}
+
+// The entry with the greatest key.
+pub fn last(ws: &[u32], i: u32) -> Found
+    requires { ⌜ Rooted (now ws) i maxHeight ⌝ }
+    ensures { λ r. ⌜ Finds (now (ws .entry)) i r lastIn ⌝ }
+{
+    last_below(ws, i, MAX_HEIGHT)
+}
+
+fn from_start(b: Bound, key: u32) -> bool
+    ensures { λ r. ⌜ r ≡ fromStart (boundOf b) key ⌝ }
+{
+    match b {
+        Bound::Included(a) => a <= key,
+        Bound::Excluded(a) => a < key,
+        Bound::Unbounded => true,
+    }
+}
+
+fn to_end(b: Bound, key: u32) -> bool
+    ensures { λ r. ⌜ r ≡ toEnd (boundOf b) key ⌝ }
+{
+    match b {
+        Bound::Included(a) => key <= a,
+        Bound::Excluded(a) => key < a,
+        Bound::Unbounded => true,
+    }
+}
+
+// A last key is excluded; none given bounds nothing.
+fn past_last(l: LastKey) -> Bound
+    ensures { λ r. ⌜ boundOf r ≡ past (lastOf l) ⌝ }
+{
+    match l {
+        LastKey::Given(k) => Bound::Excluded(k),
+        LastKey::NotGiven => Bound::Unbounded,
+    }
+}
+
+fn after_front(w: Range, key: u32) -> bool
+    ensures { λ r. ⌜ r ≡ afterFront (rangeOf w) key ⌝ }
+{
+    let start = w.start;
+    let last = w.front;
+    if !from_start(start, key) {
+        return false;
+    }
+    from_start(past_last(last), key)
+}
+
+fn before_back(w: Range, key: u32) -> bool
+    ensures { λ r. ⌜ r ≡ beforeBack (rangeOf w) key ⌝ }
+{
+    let end = w.end;
+    let last = w.back;
+    if !to_end(end, key) {
+        return false;
+    }
+    to_end(past_last(last), key)
+}
+
+// The least entry that the front has not passed: `dig_towards`.
+fn least(ws: &[u32], i: u32, w: Range, h: u32) -> Found
+    requires { ⌜ Rooted (now ws) i h ⌝ }
+    ensures { λ r. ⌜ Finds (now (ws .entry)) i r (leastOf (afterFront (rangeOf w))) ⌝ }
+{
+    if i == 0 {
+        return Found::Nothing;
+    }
+    let d = node_at(ws, i);
+    let e = d.entry;
+    if after_front(w, e.key) {
+        let l = least(ws, d.left, w, h - 1);
+        or_else(l, e)
+    } else {
+        least(ws, d.right, w, h - 1)
+    }
+}
+
+// The greatest entry that the back has not passed.
+fn greatest(ws: &[u32], i: u32, w: Range, h: u32) -> Found
+    requires { ⌜ Rooted (now ws) i h ⌝ }
+    ensures { λ r. ⌜ Finds (now (ws .entry)) i r (greatestOf (beforeBack (rangeOf w))) ⌝ }
+{
+    if i == 0 {
+        return Found::Nothing;
+    }
+    let d = node_at(ws, i);
+    let e = d.entry;
+    if before_back(w, e.key) {
+        let r = greatest(ws, d.right, w, h - 1);
+        or_else(r, e)
+    } else {
+        greatest(ws, d.left, w, h - 1)
+    }
+}
+
+// A front step: the least entry left, unless it has passed the back.
+pub fn step_front(ws: &[u32], i: u32, w: Range) -> Found
+    requires { ⌜ Rooted (now ws) i maxHeight ⌝ }
+    ensures { λ r. ⌜ Finds (now (ws .entry)) i r (stepOf atFront (rangeOf w)) ⌝ }
+{
+    let Found::At(e) = least(ws, i, w, MAX_HEIGHT) else {
+        return Found::Nothing;
+    };
+    if before_back(w, e.key) {
+        Found::At(e)
+    } else {
+        Found::Nothing
+    }
+}
+
+// A back step: the greatest entry left, unless it has passed the front.
+pub fn step_back(ws: &[u32], i: u32, w: Range) -> Found
+    requires { ⌜ Rooted (now ws) i maxHeight ⌝ }
+    ensures { λ r. ⌜ Finds (now (ws .entry)) i r (stepOf atBack (rangeOf w)) ⌝ }
+{
+    let Found::At(e) = greatest(ws, i, w, MAX_HEIGHT) else {
+        return Found::Nothing;
+    };
+    if after_front(w, e.key) {
+        Found::At(e)
+    } else {
+        Found::Nothing
+    }
+}
