@@ -37,5 +37,5 @@ owned-raisable Valid n v ws P i o (inr l) h =
     let b = o .shaped .limits in
     record {
       inside = omega (arith, owned-long Valid n v ws P o, l .1);
-      room = λ p. omega (arith, count-small Valid n v ws P o i p (l .1), b .n-high, b .v-high)
+      room = λ p. omega (arith, count-small Valid n v ws P o i p (l .1), b .n-high, b .v-high);
     }

@@ -1,20 +1,16 @@
 -- What `release` holds at each of its steps, and that its stores are their model.
-use mathlib.Core.Path.{_≡_, refl, ap, sym, _∙_, subst}
-use mathlib.Core.List.{List, [], _∷_}
-use Prim.Native.Nat.{ℕ, zero, suc, _+_, _-_, _*_, _≤_, _<_}
+use mathlib.Core.Path.{_≡_, refl}
+use mathlib.Core.List.{List, _∷_}
+use Prim.Native.Nat.{ℕ, zero, suc, _-_, _≤_, _<_}
 use native.Mathlib.Omega.{arith}
-use lib.ListN.{length}
 use borrow.Author.Tests.{lt-ltb, le-ltb}
-use Rattle.heights.specs.Choice.{if_then_else_}
 use Rattle.trees.specs.Tree.{Tree, leaf, node, height}
 use Rattle.words.specs.Layout.{left, right, count}
-use Rattle.words.specs.Counting.{occ}
 use Rattle.words.specs.Reads.{Reads}
-use Rattle.words.specs.Owned.{Owned}
 use Rattle.words.specs.Model.{withCount, freeing, releasing}
 use Rattle.words.proofs.Counts.{occ-first}
 use Rattle.words.proofs.Recounting.{owned-long}
-use Rattle.words.proofs.Releasing.{Released, released-free, in-turn, kept-pending, releasing-released}
+use Rattle.words.proofs.Releasing.{released-free, in-turn, kept-pending, releasing-released}
 use Rattle.arena.specs.Nodes.{NodeInside, Any, Holds}
 
 -- The model, where a name is left and where none is.

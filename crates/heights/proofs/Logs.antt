@@ -1,7 +1,6 @@
 -- The logarithm: `lg` is the rounded-down one, and so is what the count of leading zeros gives.
 use Prim.Native.Nat.{ℕ, zero, suc, _+_, _-_, _*_, _^_, _≤_, _<_}
-use mathlib.Core.Path.{_≡_, refl, sym, ap, subst, _∙_}
-use mathlib.Core.Bool.{Bool, true, false}
+use mathlib.Core.Path.{_≡_, refl, ap, _∙_}
 use native.Mathlib.Omega.{arith}
 use native.Mathlib.Nat.{le-antisymm}
 use native.Mathlib.Decide.{decLe}
@@ -11,7 +10,6 @@ use lib.Pow.{pow-mono}
 use borrow.Author.Tests.{leb-true, leb-false}
 use mir.Syntax.{w32}
 use mir.Val.{Fits}
-use Rattle.heights.specs.Choice.{if_then_else_}
 use Rattle.heights.specs.Height.{IsLog, lgUpTo, lg, H}
 use Rattle.heights.proofs.Choices.{fork}
 

@@ -1,6 +1,5 @@
 -- Document 01, "Reserve": the height H that no version of n entries exceeds, and the reserves made of it.
 use Prim.Native.Nat.{ℕ, zero, suc, _+_, _*_, _^_, _≤_, _<_}
-use mathlib.Core.Bool.{Bool, true, false}
 use lib.Dec.{leb}
 use Rattle.heights.specs.Choice.{if_then_else_}
 

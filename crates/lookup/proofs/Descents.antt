@@ -2,24 +2,20 @@
 use mathlib.Core.Path.{_≡_, refl, sym, ap, _∙_, subst}
 use mathlib.Core.Bool.{Bool, true, false}
 use mathlib.Core.List.{List}
-use mathlib.Core.Option.{Option, none, some}
-use Prim.Native.Nat.{ℕ, suc, _+_, _-_, _*_, _≤_, _<_}
+use mathlib.Core.Option.{Option}
+use Prim.Native.Nat.{ℕ, _-_, _≤_, _<_}
 use native.Mathlib.Omega.{arith}
-use lib.Dec.{ltb}
-use lib.ListN.{length}
 use borrow.Author.Tests.{lt-ltb, le-ltb}
-use Rattle.heights.specs.Choice.{if_then_else_}
 use Rattle.trees.specs.Tree.{Entry, Color, Place, Tree, leaf, node, height}
 use Rattle.trees.specs.Listing.{orElse}
-use Rattle.trees.specs.Range.{End, front, back, afterFront, beforeBack}
-use Rattle.trees.specs.Lookup.{get, first, last, least, greatest, within, step}
+use Rattle.trees.specs.Lookup.{get, first, last, least, greatest}
 use Rattle.words.specs.Layout.{entry, left, right}
 use Rattle.words.specs.Reads.{Reads}
 use Rattle.arena.specs.Nodes.{entryOf, NodeInside, IsNode}
 use Rattle.arena.specs.declared.Node.{Node}
 use Rattle.lookup.specs.declared.Found.{Found}
 use Rattle.lookup.specs.declared.Found.the-variants.{At, Nothing}
-use Rattle.lookup.specs.Finding.{foundOf, rangeOf, Rooted, Finds}
+use Rattle.lookup.specs.Finding.{foundOf, Rooted, Finds}
 
 module _ {ws : List ℕ} {i h : ℕ} (k : Rooted ws i h) (some-node : i ≡ 0 → ⊥) where
   is-node : (t : Tree) → Reads (k .n) ws i t → height t ≤ h → (i ≤ k .n) × (1 ≤ h)

@@ -1,11 +1,10 @@
 -- The small tests: each arm of a match is what the definition says of its case.
-use mathlib.Core.Path.{_≡_, refl, sym, ap, subst, _∙_}
-use mathlib.Core.Bool.{Bool, true, false, _&&_}
+use mathlib.Core.Path.{_≡_, sym, ap, subst, _∙_}
+use mathlib.Core.Bool.{Bool, true, false}
 use mathlib.Core.List.{List}
-use mathlib.Core.Option.{Option, none, some}
+use mathlib.Core.Option.{Option}
 use Prim.Native.Nat.{ℕ}
 use lib.Dec.{ltb, leb}
-use Rattle.heights.specs.Choice.{if_then_else_}
 use Rattle.trees.specs.Tree as trees
 use Rattle.trees.specs.Listing.{orElse}
 use Rattle.trees.specs.Range.{front, back, fromStart, toEnd, past, afterFront, beforeBack}

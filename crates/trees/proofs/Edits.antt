@@ -1,12 +1,10 @@
 -- Both kinds of edit at once: the tree's edit lists what the listing's edit gives, stays fine, and changes the size as it should.
-use Prim.Native.Nat.{ℕ, suc, _+_, _-_}
-use mathlib.Core.Path.{_≡_, refl, sym, ap, _∙_}
-use mathlib.Core.Bool.{Bool, true, false}
-use native.Mathlib.Omega.{arith}
+use Prim.Native.Nat.{ℕ, _+_}
+use mathlib.Core.Path.{_≡_, ap, _∙_}
 use lib.ListN.{length}
 use Rattle.heights.specs.Choice.{if_then_else_}
 use Rattle.trees.specs.Tree.{Entry, Tree, listing, size}
-use Rattle.trees.specs.Listing.{find, isSome, Ascending}
+use Rattle.trees.specs.Listing.{Ascending}
 use Rattle.trees.specs.Shape.{Fine}
 use Rattle.trees.specs.Lookup.{has}
 use Rattle.trees.specs.Insert.{insert}

@@ -1,12 +1,11 @@
 -- "A front step answers the least entry in range that is above the former and below the latter; a back step the greatest": no other does.
 use Prim.Native.Nat.{ℕ, _<_, _≤_}
-use mathlib.Core.Path.{_≡_, refl, sym, ap, subst, _∙_}
+use mathlib.Core.Path.{_≡_, refl, sym, subst, _∙_}
 use mathlib.Core.Bool.{Bool, true, false, true≢false}
 use mathlib.Core.List.{List, [], _∷_, List·Memᴰ, List·Memᴰ·head, List·Memᴰ·tail, List·Memᴰ·cases-cons, List·Memᴰ·not-nil}
 use mathlib.Core.Logic.{⊎-elim}
 use mathlib.Core.Option.{Option, none, some}
 use native.Mathlib.Omega.{arith}
-use Rattle.heights.specs.Choice.{if_then_else_}
 use Rattle.heights.proofs.Choices.{fork}
 use Rattle.trees.specs.Tree.{Entry}
 use Rattle.trees.specs.Listing.{firstOf, lastOf, orElse, Above, Ascending}

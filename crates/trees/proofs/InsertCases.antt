@@ -1,8 +1,7 @@
 -- What `balance` and `ins` do, as relations of the tree before and the tree after: one constructor a case, so that each law is a clause a case.
-use Prim.Native.Nat.{ℕ, _<_}
+use Prim.Native.Nat.{_<_}
 use mathlib.Core.Path.{_≡_, refl}
 use mathlib.Core.Bool.{Bool, true, false, _&&_, false≢true}
-use Rattle.heights.specs.Choice.{if_then_else_}
 use Rattle.heights.proofs.Choices.{fork2, compared₂}
 use Rattle.trees.specs.Tree.{Entry, Color, red, black, Place, fresh, Tree, leaf, node, lf, rt, en, isRed, isBlack}
 use Rattle.trees.specs.Lookup.{has}

@@ -2,8 +2,8 @@
 use Prim.Native.Nat.{ℕ, suc}
 use mathlib.Core.Path.{_≡_, refl, sym, ap, _∙_}
 use mathlib.Core.Bool.{Bool, true, false, true≢false}
-use mathlib.Core.List.{List, [], _∷_, _++_, append-assoc}
-use Rattle.trees.specs.Tree.{Entry, Color, red, black, Place, fresh, Tree, leaf, node, isRed, paint, listing}
+use mathlib.Core.List.{List, _∷_, _++_, append-assoc}
+use Rattle.trees.specs.Tree.{Entry, Color, red, black, Place, Tree, leaf, node, isRed, paint, listing}
 use Rattle.trees.specs.Listing.{put, Ascending}
 use Rattle.trees.specs.Shape.{Rb, rb-leaf, rb-red, rb-black, Fine}
 use Rattle.trees.specs.Lookup.{has}

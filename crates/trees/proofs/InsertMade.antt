@@ -3,14 +3,13 @@ use Prim.Native.Nat.{ℕ, suc, _+_, _<_}
 use mathlib.Core.Path.{_≡_, refl, sym, _∙_}
 use mathlib.Core.Bool.{Bool, true, false, _&&_, true≢false, false≢true}
 use native.Mathlib.Omega.{arith}
-use lib.Dec.{ltb}
 use borrow.Author.Tests.{lt-ltb, le-ltb}
 use Rattle.heights.specs.Choice.{if_then_else_}
 use Rattle.trees.specs.Tree.{Entry, Color, red, black, Place, fresh, Tree, leaf, node, lf, rt, isRed, paint, one, made}
-use Rattle.trees.specs.Shape.{Rb, rb-leaf, rb-red, rb-black}
+use Rattle.trees.specs.Shape.{Rb, rb-red, rb-black}
 use Rattle.trees.specs.Lookup.{has, path}
 use Rattle.trees.specs.Insert.{ins, insert}
-use Rattle.trees.proofs.InsertCases.{Balance, Settle, still, turned, Ins, inserted}
+use Rattle.trees.proofs.InsertCases.{Balance, still, turned, Ins, inserted}
 
 -- Whether the root is made by this call: 1 or 0.
 abbrev top : Tree → ℕ

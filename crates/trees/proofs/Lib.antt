@@ -15,3 +15,4 @@ pub mod Ranges
 pub mod Extremes
 pub mod Orders
 pub mod Worked
+pub mod Sharing

@@ -1,13 +1,11 @@
 -- The descents find what the listing holds: `get` is `find`, `has` whether there is one, `first` and `last` are the ends.
 use Prim.Native.Nat.{ℕ, suc, _+_, _≤_, max}
 use mathlib.Core.Path.{_≡_, refl, sym, ap, _∙_}
-use mathlib.Core.Bool.{Bool, true, false}
+use mathlib.Core.Bool.{Bool}
 use mathlib.Core.List.{List, [], _∷_, _++_}
 use mathlib.Core.Option.{Option, none, some}
 use native.Mathlib.Omega.{arith}
-use lib.Dec.{ltb}
 use lib.ListN.{length, length-append}
-use Rattle.heights.specs.Choice.{if_then_else_}
 use Rattle.heights.proofs.Choices.{compared, compared₂}
 use Rattle.trees.specs.Tree.{Entry, Tree, leaf, node, listing, size, height}
 use Rattle.trees.specs.Listing.{find, firstOf, lastOf, orElse, isSome, Ascending}

@@ -1,13 +1,13 @@
 -- Trees stay low: no version of n entries is taller than H(n).
 use Prim.Native.Nat.{ℕ, suc, _+_, _-_, _*_, _^_, _<_, _≤_, max}
 use mathlib.Core.Path.{_≡_}
-use mathlib.Core.Bool.{Bool, false, true≢false}
+use mathlib.Core.Bool.{false, true≢false}
 use native.Mathlib.Omega.{arith}
 use native.Mathlib.Decide.{decLt}
 use lib.Pow.{pow-mono}
 use Rattle.heights.specs.Height.{H}
 use Rattle.heights.proofs.Logs.{H-log}
-use Rattle.trees.specs.Tree.{Tree, leaf, node, size, height, isRed}
+use Rattle.trees.specs.Tree.{Tree, size, height, isRed}
 use Rattle.trees.specs.Shape.{Rb, rb-leaf, rb-red, rb-black, Fine}
 
 -- n black levels hold at least 2^n - 1 entries, and at most as many red levels stand between them.

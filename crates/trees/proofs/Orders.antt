@@ -1,13 +1,11 @@
 -- Comparison is an order: it answers 0 for equal listings only, and the opposite the other way round.
-use Prim.Native.Nat.{ℕ, _<_}
+use Prim.Native.Nat.{ℕ}
 use mathlib.Core.Path.{_≡_, refl, sym, ap, _∙_}
-use mathlib.Core.Bool.{Bool, true, false, true≢false}
+use mathlib.Core.Bool.{true, false, true≢false}
 use mathlib.Core.List.{List, [], _∷_}
 use native.Mathlib.Omega.{arith}
-use lib.Dec.{ltb}
 use borrow.Author.Tests.{lt-ltb, le-ltb}
-use Rattle.heights.specs.Choice.{if_then_else_}
-use Rattle.heights.proofs.Choices.{compared, compared₂}
+use Rattle.heights.proofs.Choices.{compared}
 use Rattle.trees.specs.Tree.{Entry}
 use Rattle.trees.specs.Order.{Sign, less, same, more, compareNumbers, _andThen_, compareEntries, compare, isSame, equal}
 

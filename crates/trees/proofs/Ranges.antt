@@ -1,35 +1,16 @@
 -- A step of a walk on the tree is the step on its listing.
-use Prim.Native.Nat.{ℕ, suc, _+_, _<_, _≤_}
+use Prim.Native.Nat.{ℕ, _+_, _<_, _≤_}
 use mathlib.Core.Path.{_≡_, refl, sym, ap, _∙_}
 use mathlib.Core.Bool.{Bool, true, false, _&&_, true≢false}
-use mathlib.Core.List.{List, [], _∷_, _++_, append-nil, List·Memᴰ, List·Memᴰ·cases-cons, List·Memᴰ·not-nil}
-use mathlib.Core.Logic.{⊎-elim}
+use mathlib.Core.List.{List, [], _∷_, _++_, append-nil}
 use mathlib.Core.Option.{Option, none, some}
 use native.Mathlib.Omega.{arith}
-use lib.Dec.{ltb, leb}
 use borrow.Author.Tests.{ltb-true, leb-true, lt-ltb, le-leb}
 use Rattle.heights.specs.Choice.{if_then_else_}
 use Rattle.heights.proofs.Choices.{fork}
 use Rattle.trees.specs.Tree.{Entry, Tree, leaf, node, listing}
 use Rattle.trees.specs.Listing.{firstOf, lastOf, orElse, Above, Below, Ascending}
-use Rattle.trees.specs.Range.{
-  Bound,
-  included,
-  excluded,
-  unbounded,
-  End,
-  front,
-  back,
-  Range,
-  fromStart,
-  toEnd,
-  past,
-  afterFront,
-  beforeBack,
-  remains,
-  keep,
-  next,
-}
+use Rattle.trees.specs.Range.{Bound, included, excluded, unbounded, End, front, back, Range, fromStart, toEnd, past, afterFront, beforeBack, keep, next}
 use Rattle.trees.specs.Lookup.{least, greatest, within, step}
 use Rattle.trees.proofs.Listings.{split}
 use Rattle.trees.proofs.Lookups.{first-append, last-append}

@@ -1,12 +1,11 @@
 -- The arms that 000 marks `unreachable!` are never reached on red-black trees, and every `unwrap` that no test before it guards finds a node.
 use Prim.Native.Nat.{ℕ, suc}
-use mathlib.Core.Path.{_≡_, refl, sym, _∙_}
-use mathlib.Core.Bool.{Bool, true, false, _&&_, true≢false}
-use Rattle.trees.specs.Tree.{Entry, Tree, leaf, node, isRed, isBlack}
-use Rattle.trees.specs.Shape.{Rb, rb-leaf, rb-red, rb-black}
+use mathlib.Core.Path.{_≡_, sym, _∙_}
+use mathlib.Core.Bool.{true, false, true≢false}
+use Rattle.trees.specs.Tree.{Entry, Tree, isBlack}
+use Rattle.trees.specs.Shape.{Rb, rb-red, rb-black}
 use Rattle.trees.proofs.RemoveCases.{Left, Right, Fuse, Del, deleted}
 use Rattle.trees.proofs.RemoveLaws.{not-red-black, near-not-red, rb-Fuse}
-use Rattle.trees.specs.Remove.{del}
 
 -- A run of the steps in which no such arm is taken. The only `unwrap`s that no test guards are in the third arms of `remove_balance_left`
 -- and `_right`: the far child of a red sibling, d.

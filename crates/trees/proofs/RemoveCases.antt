@@ -1,23 +1,10 @@
 -- What each step of removal does, as relations, like `InsertCases`.
 use Prim.Native.Nat.{ℕ, _<_}
 use mathlib.Core.Path.{_≡_, refl}
-use mathlib.Core.Bool.{Bool, true, false, _&&_}
-use Rattle.heights.specs.Choice.{if_then_else_}
+use mathlib.Core.Bool.{false, _&&_}
 use Rattle.heights.proofs.Choices.{fork, fork2, compared}
-use Rattle.trees.specs.Tree.{Entry, Color, red, black, Place, fresh, Tree, leaf, node, lf, rt, en, isRed, isBlack, paint, copy}
-use Rattle.trees.specs.Remove.{
-  removeBalance,
-  turnLeft,
-  turnRight,
-  removeBalanceLeft,
-  removeBalanceRight,
-  join,
-  fuseNode,
-  fuse,
-  delLeft,
-  delRight,
-  del,
-}
+use Rattle.trees.specs.Tree.{Entry, Color, red, black, Place, fresh, Tree, leaf, node, lf, rt, isRed, isBlack, paint, copy}
+use Rattle.trees.specs.Remove.{removeBalance, turnLeft, turnRight, removeBalanceLeft, removeBalanceRight, join, fuseNode, fuse, delLeft, delRight, del}
 use Rattle.trees.proofs.InsertCases.{red-is, black-is, Balance, balanced}
 
 pub data RemoveBalance : Tree → Tree → Type 0 where

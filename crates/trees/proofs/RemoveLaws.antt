@@ -1,28 +1,17 @@
 -- Laws of `fuse` and `remove`: the listing, the order, the shape.
 use Prim.Native.Nat.{ℕ, suc, _<_}
 use mathlib.Core.Path.{_≡_, refl, sym, ap, _∙_}
-use mathlib.Core.Bool.{Bool, true, false, true≢false, false≢true}
-use mathlib.Core.List.{List, [], _∷_, _++_, append-assoc, append-nil}
-use Rattle.heights.specs.Choice.{if_then_else_}
+use mathlib.Core.Bool.{Bool, true, false, true≢false}
+use mathlib.Core.List.{List, _∷_, _++_, append-assoc, append-nil}
 use Rattle.heights.proofs.Choices.{fork, compared}
-use Rattle.trees.specs.Tree.{Entry, Color, red, black, Place, fresh, Tree, leaf, node, isRed, isBlack, paint, copy, listing}
+use Rattle.trees.specs.Tree.{Entry, red, black, Place, fresh, Tree, leaf, node, isRed, isBlack, paint, copy, listing}
 use Rattle.trees.specs.Listing.{cut, Ascending}
 use Rattle.trees.specs.Shape.{Rb, rb-leaf, rb-red, rb-black, Fine}
 use Rattle.trees.specs.Lookup.{has}
 use Rattle.trees.specs.Remove.{fuse, del, remove}
 use Rattle.trees.proofs.RemoveCases.{RemoveBalance, Left, Right, Fuse, fused, Del, deleted}
 use Rattle.trees.proofs.Listings.{split, cut-left, cut-right, cut-here, ascending-cut}
-use Rattle.trees.proofs.InsertLaws.{
-  listing-Balance,
-  listing-paint,
-  Near,
-  red-root,
-  well,
-  rb-balance-left,
-  rb-balance-right,
-  rb-paint,
-  root-paint,
-}
+use Rattle.trees.proofs.InsertLaws.{listing-Balance, listing-paint, Near, red-root, well, rb-balance-left, rb-balance-right, rb-paint, root-paint}
 
 -- The listing.
 

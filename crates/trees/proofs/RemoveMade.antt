@@ -1,9 +1,8 @@
 -- Removal makes at most six nodes for each level of the tree, and two more.
 use Prim.Native.Nat.{ℕ, suc, _+_, _*_, _≤_}
 use mathlib.Core.Path.{_≡_}
-use mathlib.Core.Bool.{Bool, true}
+use mathlib.Core.Bool.{true}
 use native.Mathlib.Omega.{arith}
-use Rattle.heights.specs.Choice.{if_then_else_}
 use Rattle.trees.specs.Tree.{Entry, Color, red, black, fresh, Tree, leaf, node, paint, copy, height, made}
 use Rattle.trees.specs.Lookup.{has}
 use Rattle.trees.specs.Remove.{del, remove}

@@ -1,10 +1,10 @@
 -- "That these suffice is to be proved": a call makes no more nodes than its reserve.
-use Prim.Native.Nat.{ℕ, suc, _+_, _-_, _*_, _^_, _<_, _≤_}
+use Prim.Native.Nat.{ℕ, _-_, _^_, _<_, _≤_}
 use mathlib.Core.Path.{_≡_}
 use mathlib.Core.Bool.{Bool, true, false}
 use native.Mathlib.Omega.{arith}
 use Rattle.heights.specs.Choice.{if_then_else_}
-use Rattle.heights.specs.Height.{H, insertReserve, removeReserve}
+use Rattle.heights.specs.Height.{insertReserve, removeReserve}
 use Rattle.trees.specs.Tree.{Entry, Tree, size, made}
 use Rattle.trees.specs.Shape.{Fine}
 use Rattle.trees.specs.Lookup.{has}

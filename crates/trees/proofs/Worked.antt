@@ -2,27 +2,16 @@
 -- definitions compute. A star is a fresh node; a number before a node's parts is its place in the parent.
 use Prim.Native.Nat.{ℕ}
 use mathlib.Core.Path.{_≡_, refl}
-use mathlib.Core.Bool.{Bool, true, false}
+use mathlib.Core.Bool.{true, false}
 use mathlib.Core.List.{List, [], _∷_, map}
-use mathlib.Core.Option.{Option, none, some}
+use mathlib.Core.Option.{none, some}
 use Rattle.heights.specs.Height.{lgUpTo, lg, H}
 use Rattle.trees.specs.Tree.{Entry, red, black, kept, fresh, Tree, leaf, node}
-use Rattle.trees.specs.Range.{Bound, included, excluded, unbounded, End, front, back, Range, next, stepped, badRange}
-use Rattle.trees.specs.Order.{Sign, less, same, more, compare}
+use Rattle.trees.specs.Range.{Bound, included, excluded, unbounded, front, back, Range, next, stepped, badRange}
+use Rattle.trees.specs.Order.{less, more, compare}
 use Rattle.trees.specs.Lookup.{has}
 use Rattle.trees.specs.Insert.{balance, ins, insert}
-use Rattle.trees.specs.Remove.{
-  removeBalance,
-  removeBalanceLeft,
-  removeBalanceRight,
-  join,
-  fuseNode,
-  fuse,
-  delLeft,
-  delRight,
-  del,
-  remove,
-}
+use Rattle.trees.specs.Remove.{removeBalance, removeBalanceLeft, removeBalanceRight, join, fuseNode, fuse, delLeft, delRight, del, remove}
 use Rattle.trees.specs.Edit.{Edit, setting, cutting, edit}
 
 abbrev e : ℕ → Entry

@@ -1,5 +1,5 @@
 -- 000's `balance` and `insert`, step by step, over plain trees.
-use mathlib.Core.Bool.{Bool, true, false, _&&_, not}
+use mathlib.Core.Bool.{Bool, _&&_, not}
 use lib.Dec.{ltb}
 use Rattle.heights.specs.Choice.{if_then_else_}
 use Rattle.trees.specs.Tree.{Entry, red, black, fresh, Tree, leaf, node, lf, rt, en, isRed, isBlack, paint}

@@ -1,12 +1,12 @@
 -- 000's `get`, `first`, `last` and the descents of `range`, over plain trees.
 use Prim.Native.Nat.{ℕ, suc}
-use mathlib.Core.Bool.{Bool, true, false, _&&_}
+use mathlib.Core.Bool.{Bool, true, false}
 use mathlib.Core.Option.{Option, none, some}
 use lib.Dec.{ltb}
 use Rattle.heights.specs.Choice.{if_then_else_}
 use Rattle.trees.specs.Tree.{Entry, Tree, leaf, node}
 use Rattle.trees.specs.Listing.{orElse}
-use Rattle.trees.specs.Range.{Bound, included, excluded, unbounded, End, front, back, Range, fromStart, toEnd, past, afterFront, beforeBack}
+use Rattle.trees.specs.Range.{End, front, back, Range, afterFront, beforeBack}
 
 -- "recursive descents; an equal key ends the descent of `get`"
 unfoldable pub get : ℕ → Tree → Option Entry

@@ -1,9 +1,9 @@
 -- 000's `remove_fuse`, `remove_balance`, `remove_balance_left`, `remove_balance_right` and `remove`, step by step, over plain trees.
 use Prim.Native.Nat.{ℕ}
-use mathlib.Core.Bool.{Bool, true, false, _&&_}
+use mathlib.Core.Bool.{_&&_}
 use lib.Dec.{ltb}
 use Rattle.heights.specs.Choice.{if_then_else_}
-use Rattle.trees.specs.Tree.{Entry, Color, red, black, Place, fresh, Tree, leaf, node, lf, rt, en, isRed, isBlack, paint, copy}
+use Rattle.trees.specs.Tree.{Entry, Color, red, black, fresh, Tree, leaf, node, lf, rt, en, isRed, isBlack, paint, copy}
 use Rattle.trees.specs.Lookup.{has}
 use Rattle.trees.specs.Insert.{balance}
 

@@ -1,7 +1,7 @@
 -- The red-black shape, and what the tree of a version has to be.
 use Prim.Native.Nat.{ℕ, suc}
 use mathlib.Core.Path.{_≡_}
-use mathlib.Core.Bool.{Bool, false}
+use mathlib.Core.Bool.{false}
 use Rattle.trees.specs.Tree.{Tree, leaf, node, Entry, Place, red, black, isRed, listing}
 use Rattle.trees.specs.Listing.{Ascending}
 

@@ -1,5 +1,5 @@
 -- Plain trees: what a version is, before any word of an arena holds it.
-use Prim.Native.Nat.{ℕ, zero, suc, _+_, max}
+use Prim.Native.Nat.{ℕ, suc, _+_, max}
 use mathlib.Core.Bool.{Bool, true, false}
 use mathlib.Core.List.{List, [], _∷_, _++_}
 

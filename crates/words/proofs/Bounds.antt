@@ -1,17 +1,15 @@
 -- How large a version of a sound arena can be: at most as many entries as there are nodes, and no taller than 22.
-use mathlib.Core.Path.{_≡_, refl, ap, sym, _∙_, subst}
+use mathlib.Core.Path.{_≡_, refl, ap, _∙_, subst}
 use mathlib.Core.List.{List, [], _∷_, _++_, map}
-use Prim.Native.Nat.{ℕ, zero, suc, _+_, _*_, _≤_, _<_}
+use Prim.Native.Nat.{ℕ, _+_, _≤_}
 use native.Mathlib.Omega.{arith}
 use native.Mathlib.Decide.{ℕ-discrete, decLe}
 use lib.ListN.{length, length-append}
-use Rattle.heights.specs.Height.{H}
 use Rattle.heights.proofs.Logs.{H-below}
 use Rattle.trees.specs.Tree.{Entry, Place, kept, fresh, Tree, leaf, node, listing, size, height}
 use Rattle.trees.specs.Listing.{Above, Ascending}
 use Rattle.trees.specs.Shape.{Fine}
 use Rattle.trees.proofs.Low.{height-H}
-use Rattle.trees.proofs.Lookups.{size-listing}
 use Rattle.words.specs.Layout.{nodes, entry, left, right, maxNodes, maxHeight}
 use Rattle.words.specs.Counting.{same, occ}
 use Rattle.words.specs.Reads.{Reads, Held}

@@ -1,36 +1,15 @@
 -- A change of one node's words and of the head of the free list: what every reader sees of it.
-use mathlib.Core.Path.{_≡_, refl, ap, sym, _∙_, subst}
+use mathlib.Core.Path.{_≡_, refl, _∙_}
 use mathlib.Core.Logic.{_⊎_, inl, inr, ⊎-elim}
 use mathlib.Core.List.{List, [], _∷_}
-use Prim.Native.Nat.{ℕ, zero, suc, _+_, _*_, _≤_, _<_}
+use Prim.Native.Nat.{ℕ, _+_, _*_, _≤_, _<_}
 use native.Mathlib.Omega.{arith}
 use native.Mathlib.Decide.{decLt}
 use lib.ListN.{length, getD, set, length-set}
 use lib.Seq.{getD-set-same, getD-set-other}
-use Rattle.trees.specs.Tree.{Entry, Color, Tree}
-use Rattle.words.specs.Layout.{
-  nodes,
-  slots,
-  head,
-  entry,
-  left,
-  right,
-  color,
-  count,
-  code,
-  slotRoot,
-  slotSize,
-  nodeWords,
-  slotWords,
-  headerWords,
-  headWord,
-  keyWord,
-  leftWord,
-  countWord,
-  rootWord,
-  sizeWord,
-}
-use Rattle.words.specs.Counting.{occ, sum}
+use Rattle.trees.specs.Tree.{Entry, Color}
+use Rattle.words.specs.Layout.{nodes, slots, head, entry, left, right, color, count, code, slotRoot, slotSize, nodeWords, slotWords, headerWords, headWord, keyWord, leftWord, countWord, rootWord, sizeWord}
+use Rattle.words.specs.Counting.{occ}
 use Rattle.words.specs.Owned.{kids, held, names, Shaped, Agree}
 use Rattle.words.specs.Model.{storing, withCount, freeing, making}
 use Rattle.words.proofs.Counts.{sum-same, sum-change}

@@ -1,5 +1,5 @@
 -- Laws of `occ`, `sum` and `run`.
-use mathlib.Core.Path.{_≡_, refl, ap, sym, _∙_}
+use mathlib.Core.Path.{_≡_, refl, ap, sym}
 use mathlib.Core.Bool.{Bool, true, false}
 use mathlib.Core.List.{List, [], _∷_, _++_, map}
 use Prim.Native.Nat.{ℕ, zero, suc, _+_, _*_, _≤_, _<_}
@@ -8,7 +8,7 @@ use native.Mathlib.Decide.{decLe, ℕ-discrete}
 use lib.ListN.{length}
 use lib.Dec.{eqb}
 use borrow.Author.Tests.{eq-eqb, ne-eqb}
-use Rattle.words.specs.Counting.{bit, same, occ, sum, run}
+use Rattle.words.specs.Counting.{bit, same, occ, sum}
 
 pub same-eq : (a b : ℕ) → a ≡ b → same a b ≡ 1
 unfolding same bit

@@ -1,20 +1,20 @@
 -- The free number of a sound arena is N less the number of different reachable nodes, whatever the witnesses.
-use mathlib.Core.Path.{_≡_, refl, ap, sym, _∙_, subst}
-use mathlib.Core.Logic.{_⊎_, inl, inr, ⊎-elim}
+use mathlib.Core.Path.{_≡_, refl, sym, _∙_, subst}
+use mathlib.Core.Logic.{_⊎_, ⊎-elim}
 use mathlib.Core.List.{List, [], _∷_}
-use Prim.Native.Nat.{ℕ, zero, suc, _+_, _*_, _≤_, _<_}
+use Prim.Native.Nat.{ℕ, zero, suc, _+_, _≤_, _<_}
 use native.Mathlib.Omega.{arith}
 use native.Mathlib.Decide.{decLe}
 use lib.ListN.{length}
-use Rattle.trees.specs.Tree.{Tree, size}
-use Rattle.words.specs.Layout.{nodes, slots, head, left, count, slotRoot}
+use Rattle.trees.specs.Tree.{Tree}
+use Rattle.words.specs.Layout.{nodes, head, left, count, slotRoot}
 use Rattle.words.specs.Counting.{occ, sum}
-use Rattle.words.specs.Reads.{Reads, Held}
+use Rattle.words.specs.Reads.{Held}
 use Rattle.words.specs.Sound.{Reached, AllReached, Chain, Sound, freeNumber}
 use Rattle.words.specs.Owned.{idle, Owned, idleAt, idles}
-use Rattle.words.proofs.Counts.{sum-same, sum-le, length-sum, times}
+use Rattle.words.proofs.Counts.{sum-same, length-sum, times}
 use Rattle.words.proofs.Holding.{reads-same}
-use Rattle.words.proofs.OwnedLaws.{idle-pos, idle-zero, chain-in}
+use Rattle.words.proofs.OwnedLaws.{chain-in}
 use Rattle.words.proofs.SoundOwned.{reached-in, use-or-free, sound-frees}
 
 -- Two sums that make 1 at each number make n together.

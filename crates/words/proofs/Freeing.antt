@@ -1,35 +1,20 @@
 -- Node i, which only the call names, changes: all other trees stay. Freed, it gives its links to the call.
-use mathlib.Core.Path.{_≡_, refl, ap, sym, _∙_, subst}
+use mathlib.Core.Path.{_≡_, ap, sym, _∙_}
 use mathlib.Core.Logic.{_⊎_, inl, inr, ⊎-elim}
-use mathlib.Core.List.{List, [], _∷_}
-use Prim.Native.Nat.{ℕ, zero, suc, _+_, _*_, _≤_, _<_}
+use mathlib.Core.List.{List, _∷_}
+use Prim.Native.Nat.{ℕ, _+_, _≤_, _<_}
 use native.Mathlib.Omega.{arith}
 use native.Mathlib.Decide.{ℕ-discrete}
-use lib.ListN.{length}
 use Rattle.trees.specs.Tree.{Tree, height}
 use Rattle.words.specs.Layout.{head, left, right, count, slotRoot}
 use Rattle.words.specs.Counting.{same, occ}
 use Rattle.words.specs.Reads.{Reads}
 use Rattle.words.specs.Sound.{Chain}
-use Rattle.words.specs.Owned.{when, idle, kids, held, names, Live, Version, Owned}
+use Rattle.words.specs.Owned.{idle, kids, held, names, Live, Version, Owned}
 use Rattle.words.proofs.Counts.{same-eq, same-ne, occ-first, occ-rest, occ-more}
 use Rattle.words.proofs.Holding.{frame, agree-left, reads-left, reads-right}
-use Rattle.words.proofs.OwnedLaws.{
-  when-pos,
-  when-zero,
-  idle-pos,
-  idle-zero,
-  chain-kept,
-  kids-count,
-  held-count,
-  left-kids,
-  right-kids,
-  root-held,
-  live-left,
-  live-right,
-  live-root,
-}
-use Rattle.words.proofs.Changes.{Outside, outside-root, outside-size, outside-shaped, Only, only-outside, only-agree, only-count, names-change, Freed}
+use Rattle.words.proofs.OwnedLaws.{when-pos, when-zero, idle-pos, idle-zero, chain-kept, kids-count, held-count, left-kids, right-kids, root-held, live-left, live-right, live-root}
+use Rattle.words.proofs.Changes.{outside-root, outside-size, outside-shaped, Only, only-outside, only-agree, only-count, names-change, Freed}
 use Rattle.words.proofs.Recounting.{pending-first}
 
 module _ (Valid : ℕ → Tree → ℕ → Type 0) (n v i : ℕ) (ws ws' P : List ℕ) (o : Owned Valid n v ws P) (d : Only i ws ws') (low : 1 ≤ i) (high : i ≤ n)

@@ -1,13 +1,13 @@
 -- Laws of `Reads`: the frame, the links, and that a link holds one tree at most.
-use mathlib.Core.Path.{_≡_, refl, ap, sym, _∙_, subst}
-use mathlib.Core.Logic.{_⊎_, inl, inr, ⊎-elim}
+use mathlib.Core.Path.{_≡_, refl, ap, sym, _∙_}
+use mathlib.Core.Logic.{_⊎_, inl, inr}
 use mathlib.Core.List.{List}
-use Prim.Native.Nat.{ℕ, zero, suc, _+_, _*_, _≤_, _<_}
+use Prim.Native.Nat.{ℕ, zero, suc, _≤_, _<_}
 use native.Mathlib.Omega.{arith}
 use lib.Dec.{lit<, lit≤}
-use Rattle.trees.specs.Tree.{Entry, Color, red, black, Place, kept, Tree, leaf, node, height}
+use Rattle.trees.specs.Tree.{Color, red, black, Tree, leaf, node, height}
 use Rattle.words.specs.Layout.{entry, left, right, color, code, keyWord, valueWord, leftWord, rightWord, colorWord}
-use Rattle.words.specs.Reads.{NodeIs, Reads}
+use Rattle.words.specs.Reads.{Reads}
 use Rattle.words.specs.Owned.{Agree}
 
 -- Agreement, reader by reader.

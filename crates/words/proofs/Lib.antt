@@ -12,3 +12,5 @@ pub mod OwnedSound
 pub mod SoundOwned
 pub mod Bounds
 pub mod FreeNumber
+pub mod Countups
+pub mod Committing

@@ -2,13 +2,12 @@
 use mathlib.Core.Path.{_≡_, refl, ap, sym, _∙_, subst}
 use mathlib.Core.Logic.{_⊎_, inl, inr, ⊎-elim}
 use mathlib.Core.List.{List, [], _∷_}
-use Prim.Native.Nat.{ℕ, zero, suc, _+_, _*_, _≤_, _<_}
+use Prim.Native.Nat.{ℕ, zero, suc, _+_, _≤_}
 use native.Mathlib.Omega.{arith}
 use native.Mathlib.Decide.{ℕ-discrete}
-use lib.ListN.{length}
 use Rattle.trees.specs.Tree.{Entry, Color, kept, Tree, node, height}
-use Rattle.words.specs.Layout.{head, left, right, count, nodeWords, headerWords}
-use Rattle.words.specs.Counting.{same, occ, sum}
+use Rattle.words.specs.Layout.{head, left, right, count}
+use Rattle.words.specs.Counting.{same, occ}
 use Rattle.words.specs.Reads.{Reads}
 use Rattle.words.specs.Sound.{Chain}
 use Rattle.words.specs.Owned.{idle, kids, names, Live, Owned, idleAt, idles}
@@ -16,7 +15,7 @@ use Rattle.words.specs.Model.{making}
 use Rattle.words.proofs.Counts.{occ-first, occ-rest, occ-more, sum-change, sum-none}
 use Rattle.words.proofs.Holding.{agree-left}
 use Rattle.words.proofs.OwnedLaws.{when-pos, when-zero, idle-pos, idle-zero, chain-kept, live-pending, pending-tree}
-use Rattle.words.proofs.Changes.{Outside, outside-shaped, Only, only-outside, only-agree, only-count, names-change, Made, is-made}
+use Rattle.words.proofs.Changes.{Outside, outside-shaped, only-outside, only-agree, only-count, names-change, Made, is-made}
 use Rattle.words.proofs.Recounting.{owned-long, pending-first}
 use Rattle.words.proofs.Freeing.{else-frame, else-live, else-tree, else-version}
 

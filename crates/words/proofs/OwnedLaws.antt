@@ -1,5 +1,5 @@
 -- What `Owned` gives: names are among counts, links of live nodes are none or live, counts are small.
-use mathlib.Core.Path.{_≡_, refl, ap, sym, _∙_, subst}
+use mathlib.Core.Path.{_≡_, refl}
 use mathlib.Core.Logic.{_⊎_, inl, inr, ⊎-elim}
 use mathlib.Core.List.{List, [], _∷_}
 use Prim.Native.Nat.{ℕ, zero, suc, _+_, _*_, _≤_, _<_}
@@ -7,12 +7,12 @@ use native.Mathlib.Omega.{arith}
 use native.Mathlib.Decide.{ℕ-discrete}
 use lib.ListN.{length}
 use Rattle.trees.specs.Tree.{Tree, leaf, height}
-use Rattle.words.specs.Layout.{head, left, right, count, slotRoot}
-use Rattle.words.specs.Counting.{same, occ, sum}
+use Rattle.words.specs.Layout.{left, right, count, slotRoot}
+use Rattle.words.specs.Counting.{same, occ}
 use Rattle.words.specs.Reads.{Reads}
 use Rattle.words.specs.Sound.{Chain}
 use Rattle.words.specs.Owned.{when, idle, kids, held, names, Live, Owned}
-use Rattle.words.proofs.Counts.{same-eq, same-ne, same-le, occ-le, occ-first, occ-rest, occ-more, sum-at, sum-le}
+use Rattle.words.proofs.Counts.{same-eq, same-ne, same-le, occ-le, occ-first, occ-more, sum-at, sum-le}
 use Rattle.words.proofs.Holding.{reads-link, reads-left, reads-right}
 
 pub when-pos : (c x : ℕ) → 1 ≤ c → when c x ≡ x

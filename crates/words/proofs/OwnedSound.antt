@@ -1,16 +1,15 @@
 -- An arena that is owned with no link pending, every held slot's tree being fine, is sound.
-use mathlib.Core.Path.{_≡_, refl, ap, sym, _∙_, subst, subst₂}
+use mathlib.Core.Path.{_≡_, ap, sym, subst, subst₂}
 use mathlib.Core.Logic.{_⊎_, inl, inr, ⊎-elim}
 use mathlib.Core.List.{List, [], _∷_, map}
-use Prim.Native.Nat.{ℕ, zero, suc, _+_, _-_, _*_, _≤_, _<_}
+use Prim.Native.Nat.{ℕ, zero, suc, _+_, _≤_, _<_}
 use native.Mathlib.Omega.{arith}
 use native.Mathlib.Decide.{ℕ-discrete, decLe}
-use lib.ListN.{length}
 use Rattle.trees.specs.Tree.{Tree, height}
 use Rattle.words.specs.Layout.{nodes, slots, head, left, right, count, slotRoot, slotSize, notHeld}
 use Rattle.words.specs.Counting.{same, occ, sum, run}
 use Rattle.words.specs.Reads.{Reads, Held}
-use Rattle.words.specs.Sound.{Reached, from-slot, from-left, from-right, AllReached, named, Chain, Trees, Books, Sound}
+use Rattle.words.specs.Sound.{Reached, from-slot, from-left, from-right, AllReached, named, Trees, Books, Sound}
 use Rattle.words.specs.Owned.{when, idle, kids, held, names, Live, Version, Owned, Sized}
 use Rattle.words.proofs.Counts.{same-eq, same-ne, sum-some}
 use Rattle.words.proofs.Holding.{low-left, low-right, reads-link}

@@ -1,7 +1,7 @@
 -- A live node's count changes, and the call holds as many links to it more or fewer.
 use mathlib.Core.Path.{_≡_, refl, ap, sym, _∙_, subst}
 use mathlib.Core.Logic.{_⊎_, inl, inr, ⊎-elim}
-use mathlib.Core.List.{List, [], _∷_}
+use mathlib.Core.List.{List, _∷_}
 use Prim.Native.Nat.{ℕ, zero, suc, _+_, _-_, _*_, _≤_, _<_}
 use native.Mathlib.Omega.{arith}
 use native.Mathlib.Decide.{ℕ-discrete}
@@ -9,28 +9,12 @@ use lib.ListN.{length}
 use Rattle.trees.specs.Tree.{Tree}
 use Rattle.words.specs.Layout.{head, left, right, count, slotRoot, nodeWords, headerWords}
 use Rattle.words.specs.Counting.{same, occ}
-use Rattle.words.specs.Reads.{Reads}
 use Rattle.words.specs.Owned.{idle, kids, names, Live, Version, Owned, idleAt, idles, Agree}
 use Rattle.words.specs.Model.{withCount, raising}
-use Rattle.words.proofs.Counts.{occ-first, occ-rest, occ-more, sum-same}
+use Rattle.words.proofs.Counts.{same-eq, same-ne, occ-first, occ-rest, occ-more, sum-same}
 use Rattle.words.proofs.Holding.{agree-left, agree-right, frame-all}
 use Rattle.words.proofs.OwnedLaws.{when-pos, idle-pos, chain-kept}
-use Rattle.words.proofs.Changes.{
-  Outside,
-  outside-refl,
-  outside-root,
-  outside-size,
-  outside-shaped,
-  Only,
-  only-outside,
-  only-agree,
-  only-count,
-  names-change,
-  count-only,
-  count-words,
-  count-head,
-  count-here,
-}
+use Rattle.words.proofs.Changes.{Outside, outside-refl, outside-root, outside-size, outside-shaped, Only, only-outside, only-agree, only-count, names-change, count-only, count-words, count-head, count-here}
 
 module _ (Valid : ℕ → Tree → ℕ → Type 0) (n v i : ℕ) (ws ws' P P' : List ℕ) (o : Owned Valid n v ws P) (d : Only i ws ws')
     (same-words : Agree ws ws' i) (same-head : head ws' ≡ head ws) (live : Live n ws i) (live' : 1 ≤ count ws' i)
@@ -247,3 +231,25 @@ module _ (n : ℕ) (ws : List ℕ) (long : nodeWords * n + headerWords ≤ lengt
   unfolding raising
   raising-agree zero b j p q = λ k a c. refl
   raising-agree (suc i) b j p q = up-agree n (suc i) ws (omega arith) b long j p q (ℕ-discrete j (suc i))
+
+  -- The count of node i is one more, every other as it was.
+  pub raising-count : (i : ℕ) → i ≤ n → (j : ℕ) → 1 ≤ j → j ≤ n → count (raising ws i) j ≡ count ws j + same i j
+  unfolding raising
+  raising-count zero b j p q = omega (arith, same-ne 0 j (λ e. omega arith))
+  raising-count (suc i) b j p q = go (ℕ-discrete j (suc i))
+    where
+      w : List ℕ
+      w = withCount ws (suc i) (count ws (suc i) + 1)
+
+      go : Dec (j ≡ suc i) → count w j ≡ count ws j + same (suc i) j
+      go (yes e) =
+          let a = count-here (suc i) ws (omega arith) (omega arith) (count ws (suc i) + 1) in
+          let x = ap (count w) e in
+          let y = ap (count ws) e in
+          omega (arith, same-eq (suc i) j (sym e))
+      go (no f) =
+          omega (
+            arith,
+            only-count n (suc i) ws w (count-only (suc i) ws (omega arith) (omega arith) (count ws (suc i) + 1)) (omega arith) b j p f,
+            same-ne (suc i) j (λ e. f (sym e)),
+          )

@@ -1,8 +1,7 @@
 -- Release: the call's link goes, nodes of which no name is left are freed, and what is still live keeps its words.
-use mathlib.Core.Path.{_≡_, refl, ap, sym, _∙_, subst}
-use mathlib.Core.Logic.{_⊎_, inl, inr, ⊎-elim}
-use mathlib.Core.Bool.{Bool, true, false}
-use mathlib.Core.List.{List, [], _∷_}
+use mathlib.Core.Path.{_≡_, refl, ap, _∙_, subst}
+use mathlib.Core.Logic.{_⊎_}
+use mathlib.Core.List.{List, _∷_}
 use Prim.Native.Nat.{ℕ, zero, suc, _+_, _-_, _*_, _≤_, _<_}
 use native.Mathlib.Omega.{arith}
 use native.Mathlib.Decide.{ℕ-discrete, decLt}
@@ -19,19 +18,7 @@ use Rattle.words.specs.Model.{withCount, freeing, releasing}
 use Rattle.words.proofs.Counts.{occ-first}
 use Rattle.words.proofs.Holding.{frame, agree-left, agree-right}
 use Rattle.words.proofs.OwnedLaws.{live-left, live-right, live-pending, occ-count}
-use Rattle.words.proofs.Changes.{
-  Outside,
-  outside-refl,
-  outside-trans,
-  Only,
-  only-outside,
-  only-agree,
-  only-count,
-  count-only,
-  count-words,
-  Freed,
-  is-freed,
-}
+use Rattle.words.proofs.Changes.{Outside, outside-refl, outside-trans, Only, only-outside, only-agree, only-count, count-only, count-words, Freed, is-freed}
 use Rattle.words.proofs.Recounting.{owned-long, drop-none, down-owned}
 use Rattle.words.proofs.Freeing.{freed-owned}
 

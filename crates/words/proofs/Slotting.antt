@@ -1,41 +1,21 @@
 -- A slot's two words change: a link of the call goes into a free slot, or a slot's root comes out of it. One law for both.
-use mathlib.Core.Path.{_≡_, refl, ap, sym, _∙_, subst}
+use mathlib.Core.Path.{_≡_, ap, sym, _∙_}
 use mathlib.Core.Logic.{_⊎_, inl, inr, ⊎-elim}
 use mathlib.Core.List.{List, [], _∷_}
-use Prim.Native.Nat.{ℕ, zero, suc, _+_, _*_, _≤_, _<_}
+use Prim.Native.Nat.{ℕ, _+_, _*_, _≤_, _<_}
 use native.Mathlib.Omega.{arith}
 use native.Mathlib.Decide.{ℕ-discrete, decLt}
 use lib.ListN.{length, getD}
-use Rattle.trees.specs.Tree.{Tree, leaf}
-use Rattle.words.specs.Layout.{
-  nodes,
-  slots,
-  head,
-  left,
-  right,
-  count,
-  slotRoot,
-  slotSize,
-  notHeld,
-  maxNodes,
-  nodeWords,
-  slotWords,
-  headerWords,
-  headWord,
-  leftWord,
-  rightWord,
-  countWord,
-  rootWord,
-  sizeWord,
-}
-use Rattle.words.specs.Counting.{same, occ, sum}
+use Rattle.trees.specs.Tree.{Tree}
+use Rattle.words.specs.Layout.{nodes, slots, head, left, right, count, slotRoot, slotSize, notHeld, maxNodes, nodeWords, slotWords, headerWords, headWord, leftWord, rightWord, countWord, rootWord}
+use Rattle.words.specs.Counting.{same, occ}
 use Rattle.words.specs.Reads.{Reads}
 use Rattle.words.specs.Owned.{idle, kids, held, names, Live, Shaped, Version, Owned, idleAt, idles, Agree}
 use Rattle.words.specs.Model.{slotting, unslotting}
-use Rattle.words.proofs.Counts.{same-ne, occ-first, occ-rest, occ-more, sum-same, sum-change}
+use Rattle.words.proofs.Counts.{same-ne, occ-more, sum-same, sum-change}
 use Rattle.words.proofs.Holding.{frame-all, reads-link}
 use Rattle.words.proofs.OwnedLaws.{chain-kept}
-use Rattle.words.proofs.Recounting.{owned-long, pending-first}
+use Rattle.words.proofs.Recounting.{pending-first}
 use Rattle.words.proofs.Stores.{length-storing, storing-other, storing-here}
 
 -- ws' differs from ws in the words of slot s only.

@@ -1,14 +1,13 @@
 -- A sound arena is owned, with no link pending.
-use mathlib.Core.Path.{_≡_, refl, ap, sym, _∙_, subst}
+use mathlib.Core.Path.{_≡_, refl, ap, sym, _∙_}
 use mathlib.Core.Logic.{_⊎_, inl, inr, ⊎-elim}
 use mathlib.Core.List.{List, [], _∷_, map}
-use Prim.Native.Nat.{ℕ, zero, suc, _+_, _-_, _*_, _≤_, _<_}
+use Prim.Native.Nat.{ℕ, _+_, _≤_, _<_}
 use native.Mathlib.Omega.{arith}
 use native.Mathlib.Decide.{ℕ-discrete, decLt, decLe}
-use lib.ListN.{length}
 use Rattle.trees.specs.Tree.{Tree, leaf, node, height}
 use Rattle.trees.specs.Shape.{Fine}
-use Rattle.words.specs.Layout.{nodes, slots, head, left, right, count, slotRoot, slotSize, notHeld}
+use Rattle.words.specs.Layout.{nodes, slots, left, right, count, slotRoot, notHeld}
 use Rattle.words.specs.Counting.{same, occ, sum}
 use Rattle.words.specs.Reads.{Reads, Held}
 use Rattle.words.specs.Sound.{Reached, from-slot, from-left, from-right, named, Sound}

@@ -4,3 +4,5 @@ pub mod Reads
 pub mod Sound
 pub mod Owned
 pub mod Model
+pub mod Fresh
+pub mod Commit

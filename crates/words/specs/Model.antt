@@ -1,26 +1,11 @@
 -- A pure model of each write to the arena: the words after it, as a function of the words before.
-use mathlib.Core.Bool.{Bool, true, false}
 use mathlib.Core.List.{List, [], _∷_}
 use Prim.Native.Nat.{ℕ, zero, suc, _+_, _-_, _*_}
 use lib.Dec.{ltb}
 use lib.ListN.{set}
 use Rattle.heights.specs.Choice.{if_then_else_}
 use Rattle.trees.specs.Tree.{Entry, Color}
-use Rattle.words.specs.Layout.{
-  head,
-  left,
-  right,
-  count,
-  code,
-  nodeWords,
-  slotWords,
-  headWord,
-  keyWord,
-  leftWord,
-  countWord,
-  rootWord,
-  notHeld,
-}
+use Rattle.words.specs.Layout.{head, left, right, count, code, nodeWords, slotWords, headWord, keyWord, leftWord, countWord, rootWord, notHeld}
 
 -- The words xs written one after the other, from word a + k on.
 abbrev pub storing : List ℕ → ℕ → ℕ → List ℕ → List ℕ

@@ -2,7 +2,7 @@
 -- links that the call itself holds, P. A node is live when its count is above 0. The arena has n nodes and v slots.
 use mathlib.Core.Path.{_≡_}
 use mathlib.Core.Logic.{_⊎_}
-use mathlib.Core.List.{List, [], _∷_}
+use mathlib.Core.List.{List}
 use Prim.Native.Nat.{ℕ, zero, suc, _+_, _*_, _≤_, _<_}
 use lib.ListN.{length, getD}
 use Rattle.trees.specs.Tree.{Tree, height, size}
