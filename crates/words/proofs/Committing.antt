@@ -82,12 +82,12 @@ module _ (Valid : ℕ → Tree → ℕ → Type 0) (n v : ℕ) where
   -- A node over two sides that are built.
   module _ (c : Color) (l : Tree) (e : Entry) (r : Tree) (ws F R : List ℕ) (a b : Built) (x : Builds Valid n v (F ++ R) ws l a)
       (y : Builds Valid n v (a .link ∷ R) (a .words) r b) (room : made (node fresh c l e r) ≤ idles n ws) where
-    sides-owned : Owned Valid n v (b .words) (a .link ∷ (b .link ∷ R))
+    pub sides-owned : Owned Valid n v (b .words) (a .link ∷ (b .link ∷ R))
     unfolding occ
     sides-owned = owned-occ Valid n v (b .words) (b .link ∷ (a .link ∷ R)) (a .link ∷ (b .link ∷ R)) (λ z. omega arith) (y .owned)
 
-    some : 1 ≤ idles n (b .words)
-    some = omega (arith, x .taken, y .taken)
+    pub sides-room : 1 ≤ idles n (b .words)
+    sides-room = omega (arith, x .taken, y .taken)
 
     left-reads : Reads n (b .words) (a .link) (x .tree)
     left-reads = y .besides (a .link) (x .tree) (omega (arith, occ-first (a .link) R)) (x .reads)
@@ -105,8 +105,8 @@ module _ (Valid : ℕ → Tree → ℕ → Type 0) (n v : ℕ) where
         ((i : ℕ) → 1 ≤ i → i ≤ n → count ws i ≡ 0 → isNew i ≡ true) →
         relabel isNew (node (kept top) c (x .tree) e (y .tree)) ≡ node fresh c l e r
     over-planned isNew k f =
-        let h = head-in Valid n v c (a .link) e (b .link) (b .words) R sides-owned some in
-        let z = head-idle Valid n v c (a .link) e (b .link) (b .words) R sides-owned some in
+        let h = head-in Valid n v c (a .link) e (b .link) (b .words) R sides-owned sides-room in
+        let z = head-idle Valid n v c (a .link) e (b .link) (b .words) R sides-owned sides-room in
         let new = f top (h .0) (h .1) (idle-back n ws (b .words) sides-grow top (h .0) (h .1) z) in
         rw (
           new,
@@ -117,12 +117,12 @@ module _ (Valid : ℕ → Tree → ℕ → Type 0) (n v : ℕ) where
     over-builds : Builds Valid n v R ws (node fresh c l e r) (record { words = over; link = top })
     over-builds =
         record {
-          owned = making-owned Valid n v c (a .link) e (b .link) (b .words) R sides-owned some;
+          owned = making-owned Valid n v c (a .link) e (b .link) (b .words) R sides-owned sides-room;
           tree = node (kept top) c (x .tree) e (y .tree);
-          reads = making-tree Valid n v c (a .link) e (b .link) (b .words) R sides-owned some (x .tree) (y .tree) left-reads (y .reads);
+          reads = making-tree Valid n v c (a .link) e (b .link) (b .words) R sides-owned sides-room (x .tree) (y .tree) left-reads (y .reads);
           planned = over-planned;
-          taken = omega (arith, x .taken, y .taken, making-idles Valid n v c (a .link) e (b .link) (b .words) R sides-owned some);
-          grows = grows-trans n ws (b .words) over sides-grow (making-grows c (a .link) e (b .link) (b .words) R sides-owned some);
+          taken = omega (arith, x .taken, y .taken, making-idles Valid n v c (a .link) e (b .link) (b .words) R sides-owned sides-room);
+          grows = grows-trans n ws (b .words) over sides-grow (making-grows c (a .link) e (b .link) (b .words) R sides-owned sides-room);
           besides = λ p u h q.
               making-reads
               Valid
@@ -135,7 +135,7 @@ module _ (Valid : ℕ → Tree → ℕ → Type 0) (n v : ℕ) where
               (b .words)
               R
               sides-owned
-              some
+              sides-room
               p
               u
               (omega (arith, h, occ-more (a .link) p (b .link ∷ R), occ-more (b .link) p R))
@@ -148,6 +148,31 @@ module _ (Valid : ℕ → Tree → ℕ → Type 0) (n v : ℕ) where
 
   occ-nested : (z : ℕ) (F G R : List ℕ) → occ z (F ++ (G ++ R)) ≡ occ z ((F ++ G) ++ R)
   occ-nested z F G R = omega (arith, occ-append z (F ++ G) R, occ-append z F G, occ-append z F (G ++ R), occ-append z G R)
+
+  -- What is pending before the left side is built, and what the left side leaves for the right one.
+  module _ (c : Color) (l : Tree) (e : Entry) (r : Tree) (ws R : List ℕ) where
+    pub left-owned : Owned Valid n v ws (frontier (node fresh c l e r) ++ R) → Owned Valid n v ws (frontier l ++ (frontier r ++ R))
+    left-owned =
+        owned-occ Valid n v ws ((frontier l ++ frontier r) ++ R) (frontier l ++ (frontier r ++ R)) (λ z. occ-nested z (frontier l) (frontier r) R)
+
+    module _ (a : Built) (x : Builds Valid n v (frontier r ++ R) ws l a) where
+      pub right-owned : Owned Valid n v (a .words) (frontier r ++ (a .link ∷ R))
+      right-owned =
+          owned-occ
+          Valid
+          n
+          v
+          (a .words)
+          (a .link ∷ (frontier r ++ R))
+          (frontier r ++ (a .link ∷ R))
+          (λ z. occ-middle z (a .link) (frontier r) R)
+          (x .owned)
+
+      pub right-shares : Shares n ws (node fresh c l e r) → Shares n (a .words) r
+      right-shares s = shares-kept n ws (a .words) r (λ p u h. x .besides p u (omega (arith, occ-append p (frontier r) R))) (s .1)
+
+      pub right-room : made (node fresh c l e r) ≤ idles n ws → made r ≤ idles n (a .words)
+      right-room m = omega (arith, x .taken)
 
   -- Making the fresh nodes bottom up: the two sides in turn, then the node over them.
   pub building-builds : (t : Tree) (ws R : List ℕ) → Owned Valid n v ws (frontier t ++ R) → Shares n ws t → made t ≤ idles n ws →
@@ -173,29 +198,17 @@ module _ (Valid : ℕ → Tree → ℕ → Type 0) (n v : ℕ) where
         besides = λ p u h r. r;
       }
   building-builds (node fresh c l e r) ws R o s m =
-      let F = frontier r in
-      let x : Builds Valid n v (F ++ R) ws l (building ws l) =
+      let a = building ws l in
+      let x = building-builds l ws (frontier r ++ R) (left-owned c l e r ws R o) (s .0) (omega arith) in
+      let y =
       building-builds
-      l
-      ws
-      (F ++ R)
-      (owned-occ Valid n v ws ((frontier l ++ F) ++ R) (frontier l ++ (F ++ R)) (λ z. occ-nested z (frontier l) F R) o)
-      (s .0)
-      (omega arith) in
-      over-builds c l e r ws F R (building ws l) (building (building ws l .words) r) x (right-side x (building-builds r)) m
-    where
-      right-side : (x : Builds Valid n v (frontier r ++ R) ws l (building ws l)) →
-          ((ws R : List ℕ) → Owned Valid n v ws (frontier r ++ R) → Shares n ws r → made r ≤ idles n ws → Builds Valid n v R ws r (building ws r)) →
-          Builds Valid n v (building ws l .link ∷ R) (building ws l .words) r (building (building ws l .words) r)
-      right-side x ih =
-          let w = building ws l .words in
-          let a = building ws l .link in
-          ih
-          w
-          (a ∷ R)
-          (owned-occ Valid n v w (a ∷ (frontier r ++ R)) (frontier r ++ (a ∷ R)) (λ z. occ-middle z a (frontier r) R) (x .owned))
-          (shares-kept n ws w r (λ p u h. x .besides p u (omega (arith, occ-append p (frontier r) R))) (s .1))
-          (omega (arith, x .taken))
+      r
+      (a .words)
+      (a .link ∷ R)
+      (right-owned c l e r ws R a x)
+      (right-shares c l e r ws R a x s)
+      (right-room c l e r ws R a x m) in
+      over-builds c l e r ws (frontier r) R a (building (a .words) r) x y m
 
 -- The whole: from an owned arena with room, the planned tree's link is pending and its nodes that were free before, read as fresh, are those it
 -- plans to make. Between the two parts a call may release what it held: both laws are stated apart.
