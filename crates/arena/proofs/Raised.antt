@@ -1,6 +1,6 @@
 -- The stores of `count_up` and `make_node` are their models.
 use mathlib.Core.Path.{_≡_, refl}
-use mathlib.Core.Logic.{_⊎_, inl, inr}
+use mathlib.Core.Logic.{_⊎_, inl, inr, ⊎-elim}
 use mathlib.Core.List.{List, [], _∷_}
 use Prim.Native.Nat.{ℕ, zero, suc, _+_, _*_, _^_, _<_}
 use native.Mathlib.Omega.{arith}
@@ -11,7 +11,7 @@ use Rattle.words.specs.Owned.{Live, Owned}
 use Rattle.words.specs.Model.{storing, withCount, raising, making}
 use Rattle.words.proofs.OwnedLaws.{count-small}
 use Rattle.words.proofs.Recounting.{owned-long}
-use Rattle.arena.specs.Nodes.{Raisable}
+use Rattle.arena.specs.Nodes.{Raisable, Any}
 
 pub raised-none : (ws : List ℕ) (i : ℕ) → i ≡ 0 → ws ≡ raising ws i
 unfolding raising
@@ -27,6 +27,21 @@ pub written-is : (ws : List ℕ) (i k v l r x : ℕ) → i ≡ head ws → (c : 
     ≡ making ws c l (record { key = k; value = v }) r
 unfolding making left head
 written-is ws i k v l r x e c h = rw (e, h)
+
+-- What is owned is owned with any tree in any slot, which is all that the functions below ask.
+pub owned-any : (Valid : ℕ → Tree → ℕ → Type 0) (n v : ℕ) (ws P : List ℕ) → Owned Valid n v ws P → Owned Any n v ws P
+owned-any Valid n v ws P o =
+    record {
+      shaped = o .shaped;
+      bound = o .bound;
+      trees = o .trees;
+      counts = o .counts;
+      pending = o .pending;
+      free = o .free;
+      chain = o .chain;
+      frees = o .frees;
+      versions = λ s h. ⊎-elim (λ e. inl e) (λ w. inr (w .0, w .1, tt)) (o .versions s h);
+    }
 
 -- "at most 2·N + V names": the count of a link that a call may raise stays far below what 32 bits hold.
 pub owned-raisable : (Valid : ℕ → Tree → ℕ → Type 0) (n v : ℕ) (ws P : List ℕ) (i : ℕ) → Owned Valid n v ws P → (i ≡ 0) ⊎ Live n ws i →

@@ -2,7 +2,7 @@
 ghost use mathlib.Core.Path.{_≡_};
 ghost use Prim.Native.Nat.{ℕ, _+_, _-_, _*_, _≤_, _<_};
 ghost use lib.ListN.{length};
-ghost use Rattle.words.specs.Layout.{head, left, right, count, slotRoot, slotSize};
+ghost use Rattle.words.specs.Layout.{nodes, slots, head, left, right, count, slotRoot, slotSize};
 ghost use Rattle.words.specs.Model.{withCount, raising, freeing, releasing, slotting};
 ghost use Rattle.arena.specs.Nodes.{NodeInside, SlotInside, IsNode, Raisable, Writable, Written, Makable, Made, Holds};
 
@@ -12,6 +12,10 @@ pub const HEADER_WORDS: usize = 8;
 pub const NODE_WORDS: usize = 6;
 
 pub const SLOT_WORDS: usize = 2;
+
+const NODES_WORD: usize = 0;
+
+const SLOTS_WORD: usize = 1;
 
 const HEAD_WORD: usize = 2;
 
@@ -43,6 +47,21 @@ pub struct Node {
     pub left: u32,
     pub right: u32,
     pub color: u32,
+}
+
+// The N and the V that the arena records.
+pub fn nodes_of(ws: &[u32]) -> u32
+    requires { ⌜ 8 ≤ length (now ws) ⌝ }
+    ensures { λ r. ⌜ r ≡ nodes (now (ws .entry)) ⌝ }
+{
+    ws[NODES_WORD]
+}
+
+pub fn slots_of(ws: &[u32]) -> u32
+    requires { ⌜ 8 ≤ length (now ws) ⌝ }
+    ensures { λ r. ⌜ r ≡ slots (now (ws .entry)) ⌝ }
+{
+    ws[SLOTS_WORD]
 }
 
 // The words of node i.

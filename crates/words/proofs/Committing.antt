@@ -48,7 +48,7 @@ reads-made n ws i (node fresh c l e r') r = absurd (never (r .0))
     never e = subst isKept (sym e) tt
 
 -- The kept parts stay where the links at which they hang are read as before.
-shares-kept : (n : ℕ) (ws ws' : List ℕ) (t : Tree) → ((p : ℕ) (u : Tree) → 1 ≤ occ p (frontier t) → Reads n ws p u → Reads n ws' p u) →
+pub shares-kept : (n : ℕ) (ws ws' : List ℕ) (t : Tree) → ((p : ℕ) (u : Tree) → 1 ≤ occ p (frontier t) → Reads n ws p u → Reads n ws' p u) →
     Shares n ws t → Shares n ws' t
 shares-kept n ws ws' leaf f s = tt
 shares-kept n ws ws' (node (kept i) c l e r) f s = f i (node (kept i) c l e r) (omega (arith, occ-first i [])) s

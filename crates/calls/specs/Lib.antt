@@ -1,0 +1,12 @@
+pub mod Refusal
+pub mod Call
+pub mod Effect
+pub mod Table
+pub mod Version
+pub mod Given
+pub mod Reading
+pub mod Writing
+pub mod Outcome
+pub mod History
+pub mod Walking
+pub mod Alike

@@ -1,0 +1,2 @@
+pub mod Briefs
+pub mod Verdict

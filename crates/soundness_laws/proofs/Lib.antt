@@ -1,0 +1,14 @@
+pub mod Saying
+pub mod Keys
+pub mod Fitting
+pub mod Joining
+pub mod Noting
+pub mod Settling
+pub mod Visiting
+pub mod Planting
+pub mod Sums
+pub mod Sizing
+pub mod Recounts
+pub mod Naming
+pub mod Walking
+pub mod Booking

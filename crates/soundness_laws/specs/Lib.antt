@@ -1,0 +1,5 @@
+pub mod Answer
+pub mod Summary
+pub mod Memo
+pub mod Survey
+pub mod Tally

@@ -1,0 +1,1 @@
+// No functions: what the soundness test notes stands in specs/, the laws in proofs/.
