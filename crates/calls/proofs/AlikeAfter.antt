@@ -1,41 +1,26 @@
 -- Two inserts, removes or releases on the same words leave arenas that are alike: the same but for nodes that were free.
 use mathlib.Core.Path.{_≡_, refl, ap, sym, _∙_, subst}
-use mathlib.Core.Logic.{_⊎_, inl, inr, ⊎-elim}
 use mathlib.Core.Bool.{Bool, true, false, true≢false}
-use mathlib.Core.List.{List, [], _∷_}
-use mathlib.Core.Option.{Option, none, some}
-use Prim.Native.Nat.{ℕ, _≤_, _<_}
+use mathlib.Core.List.{List}
+use Prim.Native.Nat.{ℕ, _<_}
 use native.Mathlib.Omega.{arith}
 use native.Mathlib.Decide.{ℕ-discrete}
-use lib.ListN.{length, getD}
+use lib.ListN.{getD}
 use borrow.Author.Tests.{eqb-true}
-use Rattle.trees.specs.Tree.{Entry, Color, Place, kept, Tree, node, listing, size}
-use Rattle.trees.specs.Listing.{find}
-use Rattle.trees.specs.Edit.{Edit, cutting, edit}
+use Rattle.trees.specs.Tree.{Entry, Color, kept, Tree, node}
 use Rattle.words.specs.Layout.{nodes, slots, count, slotRoot, slotSize, headerWords, headWord}
 use Rattle.words.specs.Reads.{Held}
-use Rattle.words.specs.Sound.{Sound, freeNumber}
-use Rattle.words.specs.Owned.{Live, Sized}
-use Rattle.words.specs.Model.{raising, slotting}
+use Rattle.words.specs.Sound.{Sound}
 use Rattle.words.specs.Fresh.{wasFree}
-use Rattle.words.proofs.SoundOwned.{sound-owned}
-use Rattle.words.proofs.FreeNumber.{same-free}
-use Rattle.calls.specs.Refusal.{Refusal}
-use Rattle.calls.specs.Call.{Walk, Call, Answer}
-use Rattle.calls.specs.Effect.{Effect, effect}
-use Rattle.calls.specs.Table.{tests}
-use Rattle.calls.specs.Version.{VersionIs, Lowest}
-use Rattle.calls.specs.Reading.{Tells, TellsBoth, TellsFree, TellsSound}
-use Rattle.calls.specs.Writing.{AllButSlot, Formatted, Shares, Holds, HandsOut, Edited, Removed, Released}
-use Rattle.calls.specs.Outcome.{Accepted, Outcome}
-use Rattle.calls.specs.Alike.{Alike, renamedBy, SameBut}
-use Rattle.calls.proofs.Versions.{version-one, version-of, version-root, lowest-one}
+use Rattle.calls.specs.Call.{Answer}
+use Rattle.calls.specs.Version.{VersionIs}
+use Rattle.calls.specs.Writing.{AllButSlot, HandsOutTree, GivenUp}
+use Rattle.calls.specs.Alike.{Alike}
+use Rattle.calls.proofs.Versions.{version-one, version-of, lowest-one}
 use Rattle.calls.proofs.OneSlot.{OneSlot, same-nodes, same-slots, held-before, carried, hands-out-one, released-one}
-use Rattle.calls.proofs.Decisions.{First, Passed, Either, either, first-or-passed, first-one}
-use Rattle.calls.proofs.Parts.{Part, part-live}
+use Rattle.calls.proofs.Parts.{Part, version-part, kept-same}
 use Rattle.calls.proofs.Beside.{BothHold, Towards}
 use Rattle.calls.proofs.TwinCounts.{alike}
-use Rattle.calls.proofs.SameFormat.{same-format}
 
 -- Two calls on ws that changed slot q alone, outside the nodes: what they have in common.
 module _ {q : ℕ} {ws w w' : List ℕ} (d : AllButSlot q ws w) (d' : AllButSlot q ws w') where
@@ -70,14 +55,10 @@ new-in {q} {s} {j} {ws} {w} {t} {l} {r} {c} {e} S d x p n = go (ℕ-discrete s q
     go (no f) =
         let y = version-of S s (held-before (d .others) s f (x .held)) in
         let m = version-one x (carried d f y) in
-        let a = part-live Sized (nodes ws) (slots ws) ws [] (sound-owned ws S) (slotRoot (nodes ws) ws s) (version-root S y) (y .reads) (subst (λ (u : Tree). Part u (node (kept j) c l e r)) m p) in
-        let z : j ≡ a .0 = kept-same (a .1) in
-        absurd (omega (arith, eqb-true (count ws j) 0 n, ap (count ws) z, a .2 .2))
-      where
-        kept-same : {k : ℕ} → kept j ≡ kept k → j ≡ k
-        kept-same e = cc
+        let a = version-part S y (subst (λ (u : Tree). Part u (node (kept j) c l e r)) m p) in
+        absurd (omega (arith, eqb-true (count ws j) 0 n, ap (count ws) (kept-same (a .1)), a .2 .2))
 
-module _ {ws w w' : List ℕ} {u : Tree} {a b : Answer} (g : HandsOut ws u a w) (h : HandsOut ws u b w') (e : h .out ≡ g .out) where
+module _ {ws w w' : List ℕ} {u : Tree} {a b : Answer} (g : HandsOutTree ws u a w) (h : HandsOutTree ws u b w') (e : h .out ≡ g .out) where
   hands-towards : Towards (wasFree ws) (h .out) w w'
   hands-towards = record { sound' = h .after; both = λ s x. go s x (ℕ-discrete s (g .out)); new-at = λ x p n. new-in (g .before) (hands-out-one h) x p n }
     where
@@ -92,7 +73,7 @@ module _ {ws w w' : List ℕ} {u : Tree} {a b : Answer} (g : HandsOut ws u a w) 
           }
       go s x (no f) = other-both (g .before) (hands-out-one g) (hands-out-one h) (wasFree ws) s f (λ z. f (z ∙ e)) x
 
-pub hands-out-alike : {ws w w' : List ℕ} {u : Tree} {a b : Answer} → HandsOut ws u a w → HandsOut ws u b w' → Alike (wasFree ws) w w'
+pub hands-out-alike : {ws w w' : List ℕ} {u : Tree} {a b : Answer} → HandsOutTree ws u a w → HandsOutTree ws u b w' → Alike (wasFree ws) w w'
 hands-out-alike {ws} {w} {w'} g h =
     let e = lowest-one (h .lowest) (g .lowest) in
     let d' = subst (λ (q : ℕ). AllButSlot q ws w') e (h .others) in
@@ -105,7 +86,7 @@ hands-out-alike {ws} {w} {w'} g h =
     (both-header (g .others) d')
     (both-sizes (g .others) d' (z ∙ sym (g .size-is)))
 
-module _ {ws w w' : List ℕ} {s : ℕ} {a b : Answer} (g : Released ws s a w) (h : Released ws s b w') where
+module _ {ws w w' : List ℕ} {s : ℕ} {a b : Answer} (g : GivenUp ws s a w) (h : GivenUp ws s b w') where
   released-towards : Towards (λ i. false) s w w'
   released-towards =
       record {
@@ -117,7 +98,7 @@ module _ {ws w w' : List ℕ} {s : ℕ} {a b : Answer} (g : Released ws s a w) (
       gone : (q : ℕ) → Held w q → q ≡ s → ⊥
       gone q x e = x .held (ap (λ (n : ℕ). slotRoot n w q) (same-nodes (g .others)) ∙ rw e (g .root-is))
 
-pub released-alike : {ws w w' : List ℕ} {s : ℕ} {a b : Answer} → Released ws s a w → Released ws s b w' → Alike (λ i. false) w w'
+pub released-alike : {ws w w' : List ℕ} {s : ℕ} {a b : Answer} → GivenUp ws s a w → GivenUp ws s b w' → Alike (λ i. false) w w'
 released-alike g h =
     alike
     (released-towards g h)

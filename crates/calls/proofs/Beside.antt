@@ -1,13 +1,13 @@
 -- Two arenas whose slots hold trees that are equal but for new nodes: links at the same place hold such trees, and a node stands beside one only.
 use mathlib.Core.Path.{_≡_, refl, ap, sym, _∙_, subst}
 use mathlib.Core.Logic.{_⊎_, inl, inr, ⊎-elim}
-use mathlib.Core.Bool.{Bool, true, false, true≢false}
+use mathlib.Core.Bool.{Bool, true, false}
 use mathlib.Core.List.{List}
-use Prim.Native.Nat.{ℕ, _≤_, _<_}
+use Prim.Native.Nat.{ℕ, _≤_}
 use native.Mathlib.Omega.{arith}
 use Rattle.heights.specs.Choice.{if_then_else_}
-use Rattle.trees.specs.Tree.{Entry, Color, Place, kept, fresh, Tree, leaf, node}
-use Rattle.words.specs.Layout.{nodes, slots, entry, left, right, color, code, slotRoot}
+use Rattle.trees.specs.Tree.{Entry, Color, kept, fresh, Tree, leaf, node}
+use Rattle.words.specs.Layout.{nodes, entry, left, right, color, code}
 use Rattle.words.specs.Reads.{Reads, Held}
 use Rattle.words.specs.Sound.{Sound}
 use Rattle.words.specs.Fresh.{relabelPlace, relabel}
@@ -15,7 +15,7 @@ use Rattle.calls.specs.Version.{VersionIs}
 use Rattle.calls.specs.Alike.{Twins, at-slot, at-left, at-right}
 use Rattle.calls.proofs.Versions.{version-one, version-fine}
 use Rattle.calls.proofs.Facing.{Facing}
-use Rattle.calls.proofs.Parts.{Part, whole, part-left, part-right, part-key}
+use Rattle.calls.proofs.Parts.{Part, whole, part-left, part-right, part-key, kept-same, NodeOf, reads-node}
 
 -- Slot s holds a tree in each, and they are equal but for new nodes.
 pub record BothHold (isNew : ℕ → Bool) (ws ws' : List ℕ) (s : ℕ) : Type 0 where
@@ -90,13 +90,8 @@ module _ {isNew : ℕ → Bool} {ws ws' : List ℕ} {i j : ℕ} (b : Beside isNe
   beside-nodes = beside-trees (b .here) (b .here') (b .part') (b .reads) (b .reads') (b .alike)
 
   -- Node j in its version's tree.
-  at-node : 1 ≤ j → (l r : Tree) × (c : Color) × Part (b .all') (node (kept j) c l (entry ws' j) r)
-  at-node p = go (b .here') (b .part') (b .reads')
-    where
-      go : (t : Tree) → Part (b .all') t → Reads (nodes ws') ws' j t → (l r : Tree) × (c : Color) × Part (b .all') (node (kept j) c l (entry ws' j) r)
-      go leaf a h = absurd (omega arith)
-      go (node x c l e r) a h =
-          (l, r, c, subst (λ (y : Place). Part (b .all') (node y c l (entry ws' j) r)) (h .0) (rw (h .1 .entry-is) a))
+  at-node : 1 ≤ j → NodeOf (b .all') j (entry ws' j)
+  at-node p = reads-node (nodes ws') ws' (b .here') p (b .part') (b .reads')
 
 module _ {isNew : ℕ → Bool} {q : ℕ} {ws ws' : List ℕ} (T : Towards isNew q ws ws') where
   pub beside : {i j : ℕ} → Twins ws ws' i j → Beside isNew ws ws' i j
@@ -127,15 +122,12 @@ module _ {isNew : ℕ → Bool} {q : ℕ} {ws ws' : List ℕ} (T : Towards isNew
       let b' = beside t' in
       let a = at-node b (m .some-node .1) in
       let a' = at-node b' (m' .some-node .1) in
-      let e = T .new-at (b .version') (a .3) y in
-      let e' = T .new-at (b' .version') (a' .3) y' in
+      let e = T .new-at (b .version') (a .part) y in
+      let e' = T .new-at (b' .version') (a' .part) y' in
       let w : b' .all' ≡ b .all' = version-one (subst (λ (s : ℕ). VersionIs ws' s (b' .all')) (e' ∙ sym e) (b' .version')) (b .version') in
       let key : entry ws' j .key ≡ entry ws' k .key = ap (λ (x : Entry). x .key) (m .entry-is ∙ sym (m' .entry-is)) in
       kept-same
-      (part-key (version-fine (T .sound') (b .version') .ordered) (a .3) (subst (λ (u : Tree). Part u (node (kept k) (a' .2) (a' .0) (entry ws' k) (a' .1))) w (a' .3)) key)
-    where
-      kept-same : kept j ≡ kept k → j ≡ k
-      kept-same e = cc
+      (part-key (version-fine (T .sound') (b .version') .ordered) (a .part) (subst (λ (u : Tree). Part u (node (kept k) (a' .color) (a' .lt) (entry ws' k) (a' .rt))) w (a' .part)) key)
 
   pub twin-one : (i j k : ℕ) → Twins ws ws' i j → Twins ws ws' i k → j ≡ k
   twin-one i j k t t' =

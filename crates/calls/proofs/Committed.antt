@@ -1,54 +1,29 @@
 -- Insert and remove of a present key: the planned tree is put into the arena and into the lowest slot not held.
-use mathlib.Core.Path.{_≡_, refl, ap, sym, _∙_, subst}
-use mathlib.Core.Logic.{_⊎_, inl, inr, ⊎-elim}
-use mathlib.Core.Bool.{true, false}
-use mathlib.Core.List.{List, [], _∷_}
-use mathlib.Core.Option.{Option, none, some}
-use Prim.Native.Nat.{ℕ, _+_, _*_, _≤_, _<_}
+use mathlib.Core.Path.{_≡_, refl, ap, sym, _∙_}
+use mathlib.Core.Logic.{⊎-elim}
+use mathlib.Core.List.{List, []}
+use Prim.Native.Nat.{ℕ, _+_, _*_, _≤_}
 use native.Mathlib.Omega.{arith}
 use lib.ListN.{length}
-use Rattle.heights.specs.Height.{insertReserve, removeReserve}
-use Rattle.trees.specs.Tree.{Entry, Tree, listing, size, height}
-use Rattle.trees.specs.Listing.{find}
+use Rattle.trees.specs.Tree.{Tree, size}
 use Rattle.trees.specs.Shape.{Fine}
-use Rattle.trees.specs.Edit.{Edit, setting, cutting, edit}
-use Rattle.trees.proofs.Edits.{fine-edit}
-use Rattle.words.specs.Layout.{nodes, slots, slotRoot, slotSize, notHeld, maxHeight, nodeWords, slotWords, rootWord}
-use Rattle.words.specs.Reads.{Reads, Held}
-use Rattle.words.specs.Sound.{Sound, freeNumber}
-use Rattle.words.specs.Owned.{Live, Owned, Sized, Agree, Kept}
-use Rattle.words.specs.Model.{raising, releasing, slotting, unslotting}
+use Rattle.words.specs.Layout.{nodes, slots, slotRoot, nodeWords, slotWords, rootWord}
+use Rattle.words.specs.Sound.{Sound}
+use Rattle.words.specs.Owned.{Sized}
+use Rattle.words.specs.Model.{slotting}
 use Rattle.words.specs.Fresh.{wasFree}
 use Rattle.words.specs.Commit.{Built}
 use Rattle.words.proofs.Holding.{reads-link}
-use Rattle.words.proofs.Changes.{Outside, outside-nodes, outside-root, outside-size}
-use Rattle.words.proofs.Slotting.{InSlot, slotting-in, slotting-root, slotting-size, slot-count, slot-agree, slot-reads, put-owned, take-owned}
-use Rattle.words.proofs.Releasing as releasing
-use Rattle.words.proofs.Countups.{Grows}
+use Rattle.words.proofs.Changes.{outside-nodes, outside-root}
+use Rattle.words.proofs.Slotting.{InSlot, slotting-in, slotting-root, slotting-size, slot-agree, slot-reads, put-owned}
 use Rattle.words.proofs.Committing.{Commits}
-use Rattle.words.proofs.SoundOwned.{sound-owned}
 use Rattle.words.proofs.OwnedSound.{owned-sound}
-use Rattle.words.proofs.Bounds.{reads-low}
-use Rattle.calls.specs.Refusal.{Refusal}
-use Rattle.calls.specs.Call.{Call, Answer}
-use Rattle.calls.specs.Table.{tests}
+use Rattle.calls.specs.Call.{Answer}
 use Rattle.calls.specs.Version.{VersionIs, Lowest}
-use Rattle.calls.specs.Given.{Given}
-use Rattle.calls.specs.Writing.{AllButSlot, Shares, Holds, HandsOut, Edited, Removed, Released}
-use Rattle.calls.specs.Outcome.{Outcome}
-use Rattle.calls.proofs.Versions.{version-one, version-fine, lowest-root}
+use Rattle.calls.specs.Writing.{AllButSlot, HandsOutTree}
+use Rattle.calls.proofs.Versions.{lowest-root}
 use Rattle.calls.proofs.OneSlot.{same-nodes, same-slots, in-slot-others, outside-others, others-trans}
 use Rattle.calls.proofs.Relabelling.{relabel-size, relabel-fine}
-use Rattle.calls.proofs.Decisions.{First, Passed, refused-outcome, accepted-outcome}
-use Rattle.calls.proofs.Passing.{
-  one-held,
-  not-unsound,
-  not-no-slot,
-  not-insert-room,
-  not-remove-room,
-  past-version,
-  passed-version,
-}
 
 module _ {ws : List ℕ} {q z : ℕ} {u : Tree} {b : Built} (S : Sound ws) (low : Lowest ws q) (C : Commits Sized (nodes ws) (slots ws) [] ws u b)
     (fine : Fine u) (z-is : z ≡ size u) where
@@ -83,7 +58,7 @@ module _ {ws : List ℕ} {q z : ℕ} {u : Tree} {b : Built} (S : Sound ws) (low 
         reads = rw (e, n-is) (slot-reads n q (b .words) ws' put (b .link) (C .tree) (C .reads));
       }
 
-  pub committed : HandsOut ws u (Answer.slot q) ws'
+  pub committed : HandsOutTree ws u (Answer.slot q) ws'
   committed =
       let e = outside-root n ws (b .words) (C .grows .outside) q ∙ lowest-root low in
       let s : z ≡ size (C .tree) = z-is ∙ ap size (sym (C .planned)) ∙ relabel-size (wasFree ws) (C .tree) in

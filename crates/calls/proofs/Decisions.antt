@@ -1,12 +1,12 @@
 -- An outcome is the first refusal that is given, or what the accepted call does: one of the two, and no test need be decidable.
-use mathlib.Core.Path.{_≡_, refl, ap, sym, _∙_, subst}
-use mathlib.Core.Logic.{_⊎_, inl, inr, ⊎-elim}
+use mathlib.Core.Path.{_≡_, refl}
+use mathlib.Core.Logic.{inl, inr}
 use mathlib.Core.Bool.{Bool, true, _&&_}
 use mathlib.Core.List.{List, [], _∷_}
 use Prim.Native.Nat.{ℕ}
 use lib.Dec.{ltb}
 use Rattle.calls.specs.Refusal.{Refusal, number}
-use Rattle.calls.specs.Call.{Walk, Call, Answer}
+use Rattle.calls.specs.Call.{Call, Answer}
 use Rattle.calls.specs.Table.{tests}
 use Rattle.calls.specs.Given.{Given}
 use Rattle.calls.specs.Outcome.{Accepted, Decided, Outcome}

@@ -1,24 +1,23 @@
 -- Histories exist: for all lawful N and V of three or more slots, on any old contents, with any entry, here is one with six calls after the format,
 -- one of them refused.
-use mathlib.Core.Path.{_≡_, refl, ap, sym, _∙_, subst}
+use mathlib.Core.Path.{_≡_, refl, ap, _∙_, subst}
 use mathlib.Core.List.{List, [], _∷_, _++_}
-use mathlib.Core.Option.{Option, none, some}
-use Prim.Native.Nat.{ℕ, zero, suc, _+_, _≤_, _<_}
+use mathlib.Core.Option.{none, some}
+use Prim.Native.Nat.{ℕ, zero, suc, _≤_, _<_}
 use native.Mathlib.Omega.{arith}
 use lib.ListN.{length}
 use borrow.Author.Tests.{eq-eqb}
-use Rattle.heights.specs.Height.{H, insertReserve}
-use Rattle.trees.specs.Tree.{Entry, Tree, leaf, node, listing, size, made}
+use Rattle.heights.specs.Height.{H}
+use Rattle.trees.specs.Tree.{Entry, Tree, leaf, node, listing}
 use Rattle.trees.specs.Listing.{find}
 use Rattle.trees.specs.Edit.{setting, edit}
 use Rattle.trees.specs.Insert.{ins, insert}
 use Rattle.trees.specs.Lookup.{get}
 use Rattle.trees.proofs.Lookups.{get-find}
 use Rattle.words.specs.Layout.{nodes, slots}
-use Rattle.words.specs.Counting.{occ}
 use Rattle.words.specs.Reads.{Held}
 use Rattle.words.specs.Sound.{Limits, Sound, freeNumber}
-use Rattle.words.specs.Owned.{Sized, idles}
+use Rattle.words.specs.Owned.{Sized}
 use Rattle.words.specs.Commit.{Built, raisingAll, building}
 use Rattle.words.proofs.Counts.{occ-first}
 use Rattle.words.proofs.Committing.{Commits, commits}

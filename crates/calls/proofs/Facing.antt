@@ -26,7 +26,7 @@ module _ {ws ws' : List ℕ} (F : Facing ws ws') where
   twin-reached (at-left {i = x} t m) p = from-left x (twin-reached t m) p
   twin-reached (at-right {i = x} t m) p = from-right x (twin-reached t m) p
 
-  partner : Sound ws → {x : ℕ} → Reached ws x → (y : ℕ) × Reached ws' y × Twins ws ws' x y
+  pub partner : Sound ws → {x : ℕ} → Reached ws x → (y : ℕ) × Reached ws' y × Twins ws ws' x y
   partner S (from-slot s h p) = (slotRoot (nodes ws') ws' s, from-slot s (F .held s h) (F .some-node (at-slot s h) p), at-slot s h)
   partner S (from-left i r p) =
       let t = partner S r in

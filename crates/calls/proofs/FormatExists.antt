@@ -1,36 +1,14 @@
 -- Format's outcome exists, for all lawful N and V and any old contents: the words that it leaves, written out.
-use mathlib.Core.Path.{_≡_, refl, ap, sym, _∙_, subst}
-use mathlib.Core.Bool.{Bool, true, false}
+use mathlib.Core.Path.{_≡_, refl, ap, _∙_}
 use mathlib.Core.List.{List, [], _∷_, _++_}
 use Prim.Native.Nat.{ℕ, zero, suc, _+_, _-_, _*_, _≤_, _<_}
 use native.Mathlib.Omega.{arith}
 use lib.ListN.{length, getD, length-append, List·getD-append}
 use lib.Seq.{getD-append-add}
-use Rattle.words.specs.Layout.{
-  nodes,
-  slots,
-  head,
-  left,
-  count,
-  slotRoot,
-  slotSize,
-  notHeld,
-  nodeWords,
-  slotWords,
-  headerWords,
-  headWord,
-  keyWord,
-  valueWord,
-  leftWord,
-  rightWord,
-  colorWord,
-  countWord,
-}
+use Rattle.words.specs.Layout.{nodes, slots, head, left, count, slotRoot, slotSize, notHeld, nodeWords, slotWords, headerWords, headWord, keyWord, valueWord, leftWord, rightWord, colorWord, countWord}
 use Rattle.words.specs.Counting.{run}
 use Rattle.words.specs.Sound.{Limits, Chain}
 use Rattle.calls.specs.Call.{Call, Answer}
-use Rattle.calls.specs.Refusal.{Refusal}
-use Rattle.calls.specs.Given.{Given}
 use Rattle.calls.specs.Writing.{Formatted}
 use Rattle.calls.specs.Outcome.{Outcome}
 use Rattle.calls.proofs.WritingOutcomes.{format-outcome}

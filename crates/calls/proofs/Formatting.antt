@@ -1,16 +1,16 @@
 -- Words that a format leaves are sound, with N nodes free and no slot held; and such words there are, for all lawful N and V and any old contents.
-use mathlib.Core.Path.{_≡_, refl, ap, sym, _∙_, subst}
-use mathlib.Core.Logic.{_⊎_, inl, inr, ⊎-elim}
-use mathlib.Core.List.{List, [], _∷_}
-use Prim.Native.Nat.{ℕ, zero, suc, _+_, _*_, _≤_, _<_}
+use mathlib.Core.Path.{_≡_, refl, ap, sym, _∙_}
+use mathlib.Core.Logic.{inl}
+use mathlib.Core.List.{List, []}
+use Prim.Native.Nat.{ℕ, zero, suc, _+_, _≤_, _<_}
 use native.Mathlib.Omega.{arith}
 use native.Mathlib.Decide.{ℕ-discrete}
 use lib.ListN.{length}
-use Rattle.words.specs.Layout.{nodes, slots, head, left, right, count, slotRoot, slotSize, notHeld}
+use Rattle.words.specs.Layout.{left, right, count, slotRoot, notHeld}
 use Rattle.words.specs.Counting.{same, occ, run}
 use Rattle.words.specs.Reads.{Held}
 use Rattle.words.specs.Sound.{Sound, freeNumber}
-use Rattle.words.specs.Owned.{kids, held, names, Live, Owned, Sized, idle, idles}
+use Rattle.words.specs.Owned.{kids, held, names, Owned, Sized, idles}
 use Rattle.words.proofs.Counts.{same-eq, same-ne, sum-none}
 use Rattle.words.proofs.OwnedLaws.{when-zero, idle-zero}
 use Rattle.words.proofs.OwnedSound.{owned-sound}

@@ -1,9 +1,9 @@
 -- Demand 3: whatever is called after a format, accepted or refused, the arena is sound, each slot is held exactly when the model has it and lists
 -- what the model has, the free number is N less the different reachable nodes, and no version of n entries is taller than H(n).
-use mathlib.Core.Path.{_≡_, refl, ap, sym, _∙_, subst}
-use mathlib.Core.Logic.{_⊎_, inl, inr, ⊎-elim}
+use mathlib.Core.Path.{_≡_, ap, sym, _∙_, subst}
+use mathlib.Core.Logic.{⊎-elim}
 use mathlib.Core.Bool.{Bool, true, false}
-use mathlib.Core.List.{List, []}
+use mathlib.Core.List.{List}
 use mathlib.Core.Option.{Option, none, some}
 use Prim.Native.Nat.{ℕ, _+_}
 use native.Mathlib.Omega.{arith}
@@ -11,16 +11,18 @@ use lib.ListN.{length}
 use Rattle.trees.specs.Tree.{Entry, Tree, listing}
 use Rattle.trees.specs.Listing.{find, firstOf, lastOf}
 use Rattle.trees.specs.Range.{next}
-use Rattle.words.specs.Sound.{AllReached, Sound, freeNumber}
+use Rattle.words.specs.Reads.{Held}
+use Rattle.words.specs.Sound.{AllReached, freeNumber}
 use Rattle.calls.specs.Refusal.{Refusal}
-use Rattle.calls.specs.Call.{Walk, Call, Answer}
+use Rattle.calls.specs.Call.{Call, Answer}
 use Rattle.calls.specs.Table.{tests}
 use Rattle.calls.specs.Version.{VersionIs}
 use Rattle.calls.specs.Given.{Given}
-use Rattle.calls.specs.Reading.{Tells, TellsBoth, TellsFree, TellsSound, answerBy, valueOf}
+use Rattle.calls.specs.Reading.{Tells, TellsBoth, TellsFree, answerBy, valueOf}
 use Rattle.calls.specs.Writing.{Removed}
 use Rattle.calls.specs.Outcome.{Accepted, Outcome}
-use Rattle.calls.specs.History.{Model, noVersions, Calls, History, Keeps}
+use Rattle.calls.specs.History.{Model, noVersions, Calls, History, SlotAs, Keeps}
+use Rattle.calls.proofs.Versions.{version-of}
 use Rattle.calls.proofs.Decisions.{First, Either, either}
 use Rattle.calls.proofs.Step.{model-has, formatted-keeps, step-keeps}
 
@@ -44,7 +46,7 @@ module _ (r : Refusal) where
 
   removed-no : {ws ws' : List ℕ} {s k : ℕ} → Removed ws s k (Answer.refused r) ws' → ⊥
   removed-no (Removed.present g h) = slot-no (g .hands-out .out) (g .hands-out .answer)
-  removed-no (Removed.absent x h g) = slot-no (g .shares .out) (g .shares .answer)
+  removed-no (Removed.absent x h g) = slot-no (g .hands-out .out) (g .hands-out .answer)
 
   truth-no : (b : Bool) → Answer.refused r ≡ Answer.truth b → ⊥
   truth-no b e = let z : _≡_ {A = ℕ} 0 1 = cc in omega arith
@@ -53,7 +55,7 @@ module _ (r : Refusal) where
   pub accepted-no : (c : Call) (ws ws' : List ℕ) → Accepted c ws (Answer.refused r) ws' → ⊥
   accepted-no (Call.format n v) ws ws' g = let e = g .answer in let z : _≡_ {A = ℕ} 0 1 = cc in omega arith
   accepted-no Call.new ws ws' g = slot-no (g .out) (g .answer)
-  accepted-no (Call.hold s) ws ws' g = slot-no (g .shares .out) (g .shares .answer)
+  accepted-no (Call.hold s) ws ws' g = slot-no (g .hands-out .out) (g .hands-out .answer)
   accepted-no (Call.release s) ws ws' g = let e = g .answer in let z : _≡_ {A = ℕ} 0 1 = cc in omega arith
   accepted-no (Call.size s) ws ws' g = let e = g .answer in let z : _≡_ {A = ℕ} 0 1 = cc in omega arith
   accepted-no Call.free-nodes ws ws' g = let e = g .answer in let z : _≡_ {A = ℕ} 0 1 = cc in omega arith
@@ -94,6 +96,12 @@ calls-keep K (Calls.call h o) = step-keeps (calls-keep K h) o
 
 pub history : {ws : List ℕ} {m : Model} → History ws m → Keeps ws m
 history h = calls-keep (formats-keep (h .formats)) (h .calls)
+
+-- "a slot is held exactly when the history says so": where the model has a listing for it.
+pub held-exactly : {ws : List ℕ} {m : Model} → Keeps ws m → (s : ℕ) →
+    (Held ws s → (xs : List Entry) × (m .lists s ≡ some xs)) × ((xs : List Entry) → m .lists s ≡ some xs → Held ws s)
+held-exactly {ws} K s =
+    (λ h. (listing (K .sound .trees .tree s h), model-has K (version-of (K .sound) s h)), λ xs e. subst (SlotAs ws s) e (K .slot-as s) .version .held)
 
 -- "spoiling the arena in a call and answering UNSOUND from then on" is shut out: no call of a history finds the arena unsound.
 pub never-unsound : {ws ws' : List ℕ} {m : Model} {c : Call} → History ws m → Outcome c ws (Answer.refused Refusal.unsound) ws' → ⊥

@@ -13,9 +13,11 @@ pub mod Beside
 pub mod TwinCounts
 pub mod SameFormat
 pub mod AlikeAfter
+pub mod Seeing
 pub mod Determined
 pub mod Passing
 pub mod Walks
+pub mod NoneGiven
 pub mod ReadingOutcomes
 pub mod Committed
 pub mod GivingUp
@@ -23,4 +25,8 @@ pub mod WritingOutcomes
 pub mod FormatExists
 pub mod ReadingLaws
 pub mod Example
+pub mod NewNodes
 pub mod Taken
+pub mod Rooms
+pub mod Unseen
+pub mod AlikeWords

@@ -1,24 +1,24 @@
 -- A call that changes one slot: every other slot holds the version that it held.
-use mathlib.Core.Path.{_≡_, refl, ap, sym, _∙_, subst, subst₂}
-use mathlib.Core.Logic.{_⊎_, inl, inr, ⊎-elim}
-use mathlib.Core.List.{List, [], _∷_}
-use Prim.Native.Nat.{ℕ, _≤_, _<_}
+use mathlib.Core.Path.{_≡_, ap, sym, _∙_, subst, subst₂}
+use mathlib.Core.Logic.{_⊎_}
+use mathlib.Core.List.{List, []}
+use Prim.Native.Nat.{ℕ, _<_}
 use native.Mathlib.Omega.{arith}
-use Rattle.trees.specs.Tree.{Tree, leaf}
-use Rattle.words.specs.Layout.{nodes, slots, slotRoot, slotSize, notHeld}
+use Rattle.trees.specs.Tree.{Tree}
+use Rattle.words.specs.Layout.{nodes, slots, slotRoot, slotSize}
 use Rattle.words.specs.Reads.{Reads, Held}
 use Rattle.words.specs.Sound.{Sound}
 use Rattle.words.specs.Owned.{Live, Owned, Sized}
 use Rattle.words.proofs.Holding.{frame}
-use Rattle.words.proofs.OwnedLaws.{live-left, live-right, live-root}
+use Rattle.words.proofs.OwnedLaws.{live-left, live-right}
 use Rattle.words.proofs.SoundOwned.{sound-owned}
 use Rattle.words.proofs.Changes.{Outside, outside-root, outside-size}
 use Rattle.words.proofs.Slotting.{InSlot, slot-header}
 use Rattle.words.proofs.Slotting as slotting
 use Rattle.words.proofs.Releasing.{kept-frame}
 use Rattle.calls.specs.Call.{Answer}
-use Rattle.calls.specs.Version.{VersionIs, Lowest}
-use Rattle.calls.specs.Writing.{AllButSlot, HandsOut, Released}
+use Rattle.calls.specs.Version.{VersionIs}
+use Rattle.calls.specs.Writing.{AllButSlot, HandsOutTree, GivenUp}
 use Rattle.calls.proofs.Versions.{version-of, version-root}
 
 pub record OneSlot (q : ℕ) (ws ws' : List ℕ) : Type 0 where
@@ -85,7 +85,7 @@ module _ {q : ℕ} {ws ws' : List ℕ} (d : OneSlot q ws ws') where
       }
 
 -- Nodes that were live keep their words: insert and remove.
-pub hands-out-one : {ws ws' : List ℕ} {u : Tree} {a : Answer} (g : HandsOut ws u a ws') → OneSlot (g .out) ws ws'
+pub hands-out-one : {ws ws' : List ℕ} {u : Tree} {a : Answer} (g : HandsOutTree ws u a ws') → OneSlot (g .out) ws ws'
 hands-out-one {ws} {ws'} g =
     let o = sound-owned ws (g .before) in
     record {
@@ -107,7 +107,7 @@ hands-out-one {ws} {ws'} g =
     }
 
 -- Nodes that are live afterwards keep their words: release.
-pub released-one : {ws ws' : List ℕ} {s : ℕ} {a : Answer} → Released ws s a ws' → OneSlot s ws ws'
+pub released-one : {ws ws' : List ℕ} {s : ℕ} {a : Answer} → GivenUp ws s a ws' → OneSlot s ws ws'
 released-one {ws} {ws'} g =
     let n-is = same-nodes (g .others) in
     let o : Owned Sized (nodes ws) (slots ws') ws' [] = rw n-is at (sound-owned ws' (g .after)) in

@@ -5,6 +5,7 @@ use mathlib.Core.List.{List, [], _∷_, map}
 use Prim.Native.Nat.{ℕ, zero, suc, _+_, _≤_, _<_}
 use native.Mathlib.Omega.{arith}
 use lib.Dec.{eqb}
+use lib.ListN.{length}
 use borrow.Author.Tests.{eqb-true, eqb-false}
 use Rattle.heights.specs.Choice.{if_then_else_}
 use Rattle.words.specs.Counting.{same, occ, run}
@@ -19,6 +20,11 @@ pub occ-over : (f : ℕ → ℕ) (i : ℕ) (xs : List ℕ) → occ i (map f xs) 
 unfolding occ over
 occ-over f i [] = refl
 occ-over f i (x ∷ xs) = ap (λ (y : ℕ). same (f x) i + y) (occ-over f i xs)
+
+pub over-long : (xs : List ℕ) → over (λ x. 1) xs ≡ length xs
+unfolding over
+over-long [] = refl
+over-long (x ∷ xs) = omega (arith, over-long xs)
 
 pub over-run : (f g : ℕ → ℕ) (a n : ℕ) → ((s : ℕ) → s < a + n → f s ≡ g s) → over f (run a n) ≡ over g (run a n)
 unfolding over run

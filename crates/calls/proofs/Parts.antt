@@ -1,16 +1,20 @@
--- Parts of a tree: of an ascending tree two nodes with one key are one node.
-use mathlib.Core.Path.{_≡_, refl}
-use mathlib.Core.Logic.{_⊎_, inr, ⊎-elim}
+-- Parts of a tree: of an ascending tree two nodes with one key are one node, and the nodes of a version are live.
+use mathlib.Core.Path.{_≡_, refl, subst}
+use mathlib.Core.Logic.{_⊎_, ⊎-elim}
 use mathlib.Core.List.{List, [], _∷_, _++_}
-use Prim.Native.Nat.{ℕ, _<_}
+use Prim.Native.Nat.{ℕ, _≤_, _<_}
 use native.Mathlib.Omega.{arith}
-use Rattle.trees.specs.Tree.{Entry, Color, Place, kept, Tree, node, listing}
+use Rattle.trees.specs.Tree.{Entry, Color, Place, kept, Tree, leaf, node, listing}
 use Rattle.trees.specs.Listing.{Above, Below, Ascending}
 use Rattle.trees.proofs.Listings.{split}
-use Rattle.words.specs.Layout.{left, right}
+use Rattle.words.specs.Layout.{nodes, slots, entry, left, right, slotRoot}
 use Rattle.words.specs.Reads.{Reads}
-use Rattle.words.specs.Owned.{Live, Owned}
+use Rattle.words.specs.Sound.{Sound}
+use Rattle.words.specs.Owned.{Live, Owned, Sized}
 use Rattle.words.proofs.OwnedLaws.{live-left, live-right}
+use Rattle.words.proofs.SoundOwned.{sound-owned}
+use Rattle.calls.specs.Version.{VersionIs}
+use Rattle.calls.proofs.Versions.{version-root}
 
 -- u is t, or a part of one of its children.
 pub data Part : Tree → Tree → Type 0 where
@@ -76,3 +80,29 @@ module _ (Valid : ℕ → Tree → ℕ → Type 0) (n v : ℕ) (ws P : List ℕ)
       part-live (left ws i) (⊎-elim (λ z. absurd (omega (arith, h .1 .low))) (live-left Valid n v ws P o i) m) (h .2) a
   part-live i m h (in-right a) =
       part-live (right ws i) (⊎-elim (λ z. absurd (omega (arith, h .1 .low))) (live-right Valid n v ws P o i) m) (h .3) a
+
+pub version-part : {ws : List ℕ} {s : ℕ} {t l r : Tree} {p : Place} {c : Color} {e : Entry} → Sound ws → VersionIs ws s t →
+    Part t (node p c l e r) → (j : ℕ) × (p ≡ kept j) × Live (nodes ws) ws j
+version-part {ws} {s} S x a =
+    part-live Sized (nodes ws) (slots ws) ws [] (sound-owned ws S) (slotRoot (nodes ws) ws s) (version-root S x) (x .reads) a
+
+pub kept-same : {i j : ℕ} → kept i ≡ kept j → i ≡ j
+kept-same e = cc
+
+-- Node j is a node of the tree t, with the entry e.
+pub record NodeOf (t : Tree) (j : ℕ) (e : Entry) : Type 0 where
+  pub color : Color
+  pub lt : Tree
+  pub rt : Tree
+  pub part : Part t (node (kept j) color lt e rt)
+
+-- A node that is read in a part of t is one.
+pub reads-node : (n : ℕ) (ws : List ℕ) {j : ℕ} {t : Tree} (here : Tree) → 1 ≤ j → Part t here → Reads n ws j here → NodeOf t j (entry ws j)
+reads-node n ws leaf p a h = absurd (omega arith)
+reads-node n ws {j} {t} (node x c l e r) p a h =
+    record {
+      color = c;
+      lt = l;
+      rt = r;
+      part = subst (λ (y : Place). Part t (node y c l (entry ws j) r)) (h .0) (rw (h .1 .entry-is) a);
+    }

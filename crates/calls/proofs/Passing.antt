@@ -1,17 +1,16 @@
 -- A test that is passed: facts about the arena that shut each refusal out. And the refusals that calls have in common, where they are due.
-use mathlib.Core.Path.{_≡_, refl, sym, _∙_, subst}
+use mathlib.Core.Path.{_≡_, sym, _∙_, subst}
 use mathlib.Core.Logic.{_⊎_, inl, inr, ⊎-elim}
-use mathlib.Core.Bool.{Bool, true, false, true≢false}
+use mathlib.Core.Bool.{false, true≢false}
 use mathlib.Core.List.{List, [], _∷_}
-use mathlib.Core.Option.{none, some}
-use Prim.Native.Nat.{ℕ, zero, suc, _+_, _-_, _≤_, _<_}
+use mathlib.Core.Option.{some}
+use Prim.Native.Nat.{ℕ, zero, suc, _+_, _≤_, _<_}
 use native.Mathlib.Omega.{arith}
-use native.Mathlib.Decide.{ℕ-discrete, decLt}
-use lib.ListN.{length}
+use native.Mathlib.Decide.{ℕ-discrete}
 use Rattle.heights.specs.Height.{insertReserve, removeReserve}
 use Rattle.trees.specs.Tree.{Entry, Tree, listing, size}
 use Rattle.trees.specs.Listing.{find}
-use Rattle.trees.specs.Range.{End, Range, badRange}
+use Rattle.trees.specs.Range.{End, badRange}
 use Rattle.words.specs.Layout.{nodes, slots, slotRoot, notHeld}
 use Rattle.words.specs.Counting.{occ}
 use Rattle.words.specs.Reads.{Held}

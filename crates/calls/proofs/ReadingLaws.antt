@@ -1,13 +1,14 @@
--- What document 01 says of the calls that read, over their outcomes: after END both ends answer END, equal means compare 0, the rescale mark.
-use mathlib.Core.Path.{_≡_, refl, ap, sym, _∙_, subst}
-use mathlib.Core.Bool.{Bool, true, false, _||_}
-use mathlib.Core.List.{List, [], _∷_}
-use mathlib.Core.Option.{Option, none, some}
+-- What document 01 says of the calls that read, over their outcomes: they write nothing; after END both ends answer END; equal means compare 0;
+-- the rescale mark.
+use mathlib.Core.Path.{_≡_, refl, ap, sym, _∙_}
+use mathlib.Core.Bool.{Bool, true, false, or-false}
+use mathlib.Core.List.{List}
+use mathlib.Core.Option.{none}
 use Prim.Native.Nat.{ℕ}
 use native.Mathlib.Omega.{arith}
 use Rattle.trees.specs.Tree.{Entry, Tree, listing}
 use Rattle.trees.specs.Listing.{find, isSome}
-use Rattle.trees.specs.Range.{End, Range, next, badRange}
+use Rattle.trees.specs.Range.{End, next, badRange}
 use Rattle.trees.specs.Order.{Sign, isSame}
 use Rattle.trees.specs.Order
 use Rattle.trees.proofs.Orders.{equal-is, is-equal}
@@ -18,13 +19,40 @@ use Rattle.calls.specs.Version.{VersionIs}
 use Rattle.calls.specs.Given.{Given}
 use Rattle.calls.specs.Table.{tests}
 use Rattle.calls.specs.Reading.{TellsBoth, rescaleSlope, marked}
-use Rattle.calls.specs.Outcome.{Outcome}
+use Rattle.calls.specs.Effect.{Effect, effect}
+use Rattle.calls.specs.Outcome.{Accepted, Outcome}
 use Rattle.calls.proofs.Versions.{version-one}
-use Rattle.calls.proofs.Decisions.{First}
+use Rattle.calls.proofs.Decisions.{First, Either, either}
 use Rattle.calls.proofs.Histories.{answer-accepts, answer-refuses}
 use Rattle.calls.proofs.Walks.{after-end}
 use Rattle.calls.proofs.ReadingOutcomes.{orRefused, next-outcome}
 use Rattle.calls.proofs.Determined.{determined}
+
+-- "Format, new, hold, release, insert and remove write to the arena; no other call does."
+accepted-still : (c : Call) (ws : List ℕ) (a : Answer) (ws' : List ℕ) → effect c ≡ Effect.reads → Accepted c ws a ws' → ws' ≡ ws
+accepted-still (Call.format n v) ws a ws' e g = absurd (let z : _≡_ {A = ℕ} 0 1 = cc in omega arith)
+accepted-still Call.new ws a ws' e g = absurd (let z : _≡_ {A = ℕ} 0 1 = cc in omega arith)
+accepted-still (Call.hold s) ws a ws' e g = absurd (let z : _≡_ {A = ℕ} 0 1 = cc in omega arith)
+accepted-still (Call.release s) ws a ws' e g = absurd (let z : _≡_ {A = ℕ} 0 1 = cc in omega arith)
+accepted-still (Call.size s) ws a ws' e g = g .unchanged
+accepted-still Call.free-nodes ws a ws' e g = g .unchanged
+accepted-still (Call.get s k) ws a ws' e g = g .unchanged
+accepted-still (Call.first s) ws a ws' e g = g .unchanged
+accepted-still (Call.last s) ws a ws' e g = g .unchanged
+accepted-still (Call.insert s x) ws a ws' e g = absurd (let z : _≡_ {A = ℕ} 0 1 = cc in omega arith)
+accepted-still (Call.remove s k) ws a ws' e g = absurd (let z : _≡_ {A = ℕ} 0 1 = cc in omega arith)
+accepted-still (Call.compare s t) ws a ws' e g = g .unchanged
+accepted-still (Call.equal s t) ws a ws' e g = g .unchanged
+accepted-still (Call.step d w) ws a ws' e g = g .unchanged
+accepted-still (Call.rescale-mark s) ws a ws' e g = g .unchanged
+accepted-still Call.soundness-test ws a ws' e g = g .unchanged
+
+pub readers-write-nothing : {c : Call} {ws : List ℕ} {a : Answer} {ws' : List ℕ} → effect c ≡ Effect.reads → Outcome c ws a ws' → ws' ≡ ws
+readers-write-nothing {c} {ws} {a} {ws'} e o = go (either o)
+  where
+    go : Either c (tests c) ws a ws' → ws' ≡ ws
+    go (Either.refuses f q w) = w
+    go (Either.accepts p g) = accepted-still c ws a ws' e g
 
 -- What a step that answered END says: the range is a good one, and nothing is left of the version.
 pub record Ended (ws : List ℕ) (d : End) (w : Walk) : Type 0 where
@@ -91,7 +119,3 @@ rescale-slope = refl
 
 pub marked-is : (xs : List Entry) → marked xs ≡ isSome (find 2625619 xs)
 marked-is xs = or-false (isSome (find 2625619 xs))
-  where
-    or-false : (b : Bool) → b || false ≡ b
-    or-false true = refl
-    or-false false = refl

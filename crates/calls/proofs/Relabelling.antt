@@ -1,9 +1,8 @@
 -- Reading some nodes as fresh changes neither a tree's listing nor its size nor its shape.
 use mathlib.Core.Path.{_≡_, refl, sym, _∙_}
 use mathlib.Core.Bool.{Bool}
-use mathlib.Core.List.{List, _∷_, _++_}
-use Prim.Native.Nat.{ℕ, suc, _+_}
-use Rattle.trees.specs.Tree.{Entry, red, black, Tree, leaf, node, listing, size, isRed}
+use Prim.Native.Nat.{ℕ}
+use Rattle.trees.specs.Tree.{red, black, Tree, leaf, node, listing, size, isRed}
 use Rattle.trees.specs.Shape.{Rb, rb-leaf, rb-red, rb-black, Fine}
 use Rattle.words.specs.Fresh.{relabel}
 

@@ -1,30 +1,13 @@
 -- Two formats of the same words leave equal words: every word is given.
-use mathlib.Core.Path.{_≡_, refl, ap, sym, _∙_, subst}
+use mathlib.Core.Path.{_≡_, sym, _∙_, subst}
 use mathlib.Core.List.{List}
 use Prim.Native.Nat.{ℕ, zero, suc, _+_, _-_, _*_, _/_, _%_, _≤_, _<_}
 use native.Mathlib.Omega.{arith}
-use native.Mathlib.Decide.{ℕ-discrete, decLt, decLe}
+use native.Mathlib.Decide.{ℕ-discrete, decLt}
 use native.Mathlib.Nat.{div-add-mod', mod-lt}
 use lib.ListN.{length, getD}
 use lib.Seq.{ext-getD}
-use Rattle.words.specs.Layout.{
-  nodes,
-  slots,
-  head,
-  left,
-  count,
-  slotRoot,
-  slotSize,
-  nodeWords,
-  slotWords,
-  headerWords,
-  headWord,
-  keyWord,
-  leftWord,
-  countWord,
-  rootWord,
-  sizeWord,
-}
+use Rattle.words.specs.Layout.{nodes, slots, head, left, count, slotRoot, slotSize, nodeWords, slotWords, headerWords, keyWord, leftWord, countWord, rootWord}
 use Rattle.words.specs.Counting.{run}
 use Rattle.words.specs.Sound.{Chain}
 use Rattle.calls.specs.Call.{Answer}

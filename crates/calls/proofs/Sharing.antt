@@ -1,28 +1,27 @@
 -- New, hold and remove of an absent key: a slot for a root that is there already. Their words are an equation; what it keeps.
-use mathlib.Core.Path.{_≡_, refl, ap, sym, _∙_, subst}
-use mathlib.Core.Logic.{_⊎_, inl, inr, ⊎-elim}
+use mathlib.Core.Path.{_≡_, refl, ap, sym, _∙_}
+use mathlib.Core.Logic.{_⊎_, inl}
 use mathlib.Core.List.{List, [], _∷_}
-use Prim.Native.Nat.{ℕ, _+_, _*_, _≤_, _<_}
+use Prim.Native.Nat.{ℕ, _+_, _*_, _≤_}
 use native.Mathlib.Omega.{arith}
 use lib.ListN.{length}
-use Rattle.trees.specs.Tree.{Tree, leaf, listing, size}
-use Rattle.trees.specs.Shape.{Fine, Rb, rb-leaf}
-use Rattle.words.specs.Layout.{nodes, slots, slotRoot, slotSize, notHeld, nodeWords, slotWords, rootWord, headerWords}
-use Rattle.words.specs.Reads.{Reads, Held}
+use Rattle.trees.specs.Tree.{Tree, leaf, size}
+use Rattle.trees.specs.Shape.{Fine, rb-leaf}
+use Rattle.words.specs.Layout.{nodes, slots, slotRoot, slotSize, nodeWords, slotWords, rootWord, headerWords}
+use Rattle.words.specs.Reads.{Reads}
 use Rattle.words.specs.Sound.{Sound, freeNumber}
 use Rattle.words.specs.Owned.{Live, Owned, Sized, Agree, idles}
 use Rattle.words.specs.Model.{raising, slotting}
 use Rattle.words.proofs.Holding.{frame-all}
-use Rattle.words.proofs.Changes.{Outside, outside-nodes, outside-slots, outside-root, outside-size}
+use Rattle.words.proofs.Changes.{Outside, outside-nodes, outside-root}
 use Rattle.words.proofs.Recounting.{owned-long, raising-owned, raising-idles, raising-outside, raising-agree}
-use Rattle.words.proofs.Slotting.{InSlot, slotting-in, slotting-root, slot-agree, slot-header, other-root, other-size, slot-idles, put-owned}
+use Rattle.words.proofs.Slotting.{InSlot, slotting-in, slotting-root, slot-agree, slot-idles, put-owned}
 use Rattle.words.proofs.SoundOwned.{sound-owned}
 use Rattle.words.proofs.OwnedSound.{owned-sound}
 use Rattle.words.proofs.FreeNumber.{sound-idles}
-use Rattle.calls.specs.Call.{Answer}
 use Rattle.calls.specs.Version.{VersionIs, Lowest}
-use Rattle.calls.specs.Writing.{AllButSlot, Shares, Holds}
-use Rattle.calls.proofs.Versions.{version-fine, version-size, version-root, version-link, version-of, lowest-root}
+use Rattle.calls.specs.Writing.{AllButSlot}
+use Rattle.calls.proofs.Versions.{version-fine, version-size, version-root, version-link, lowest-root}
 use Rattle.calls.proofs.OneSlot.{OneSlot, same-nodes, same-slots, in-slot-others, outside-others, others-trans}
 
 -- A root of a sound arena that a slot may hold: none, or a live node, with a fine tree and its size.

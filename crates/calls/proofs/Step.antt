@@ -1,31 +1,29 @@
 -- Demand 3, one call: whatever it is and however it goes, the arena stays sound and each slot as the model has it.
-use mathlib.Core.Path.{_≡_, refl, ap, sym, _∙_, subst}
-use mathlib.Core.Logic.{_⊎_, inl, inr, ⊎-elim}
+use mathlib.Core.Path.{_≡_, refl, ap, sym, _∙_}
+use mathlib.Core.Logic.{⊎-elim}
 use mathlib.Core.Bool.{Bool, true, false}
 use mathlib.Core.List.{List, [], _∷_}
 use mathlib.Core.Option.{Option, none, some}
-use Prim.Native.Nat.{ℕ, _+_, _≤_, _<_}
+use Prim.Native.Nat.{ℕ}
 use native.Mathlib.Omega.{arith}
 use lib.Dec.{eqb}
-use lib.ListN.{length}
 use borrow.Author.Tests.{eqb-true, eqb-false}
 use Rattle.heights.specs.Choice.{if_then_else_}
 use Rattle.trees.specs.Tree.{Entry, Tree, leaf, listing}
 use Rattle.trees.specs.Listing.{find, firstOf, lastOf, cut}
-use Rattle.trees.specs.Edit.{Edit, setting, cutting, edited, edit}
+use Rattle.trees.specs.Edit.{Edit, setting, cutting, edited}
 use Rattle.trees.specs.Range.{next}
 use Rattle.trees.proofs.Edits.{listing-edit}
-use Rattle.words.specs.Layout.{nodes, slots, slotRoot, slotSize}
-use Rattle.words.specs.Reads.{Held}
-use Rattle.words.specs.Sound.{AllReached, Sound, freeNumber}
+use Rattle.words.specs.Layout.{slotRoot}
+use Rattle.words.specs.Sound.{Sound}
 use Rattle.words.proofs.FreeNumber.{free-number}
-use Rattle.calls.specs.Call.{Walk, Call, Answer}
+use Rattle.calls.specs.Call.{Call, Answer}
 use Rattle.calls.specs.Table.{tests}
-use Rattle.calls.specs.Effect.{Effect, effect}
+use Rattle.calls.specs.Effect.{effect}
 use Rattle.calls.specs.Version.{VersionIs}
 use Rattle.words.specs.Fresh.{wasFree}
-use Rattle.calls.specs.Reading.{Tells, TellsBoth, TellsFree, TellsSound, answerBy, valueOf}
-use Rattle.calls.specs.Writing.{Formatted, Shares, Holds, HandsOut, Edited, Removed, Released}
+use Rattle.calls.specs.Reading.{answerBy, valueOf}
+use Rattle.calls.specs.Writing.{Formatted, HandsOutRoot, HandsOutAgain, Edited, Removed}
 use Rattle.calls.specs.Outcome.{Accepted, Outcome}
 use Rattle.calls.specs.History.{Model, noVersions, withSlot, editedAt, handed, after, Lists, SlotAs, Keeps}
 use Rattle.calls.proofs.Versions.{version-one, version-of, version-fine, version-low}
@@ -80,7 +78,7 @@ cut-absent k (e ∷ xs) h = go (eqb k (e .key)) h (cut-absent k xs)
     go false h ih = ap (λ (ys : List Entry). e ∷ ys) (ih h)
 
 module _ {ws ws' : List ℕ} {m : Model} {a : Answer} (K : Keeps ws m) where
-  shares-keeps : (c : Call) {r z : ℕ} (t : Tree) → Root ws r z t → handed (effect c) m ≡ some (listing t) → Shares ws r z a ws' →
+  shares-keeps : (c : Call) {r z : ℕ} (t : Tree) → Root ws r z t → handed (effect c) m ≡ some (listing t) → HandsOutRoot ws r z a ws' →
       Keeps ws' (after c a m)
   shares-keeps c {r} {z} t R e g =
       rw
@@ -93,9 +91,9 @@ module _ {ws ws' : List ℕ} {m : Model} {a : Answer} (K : Keeps ws m) where
       (shared-version ws r z (g .out) t (g .before) (g .lowest) R)
       e)
 
-  holds-keeps : (c : Call) {s : ℕ} {t : Tree} → VersionIs ws s t → handed (effect c) m ≡ some (listing t) → Holds ws s a ws' →
+  holds-keeps : (c : Call) {s : ℕ} {t : Tree} → VersionIs ws s t → handed (effect c) m ≡ some (listing t) → HandsOutAgain ws s a ws' →
       Keeps ws' (after c a m)
-  holds-keeps c {t = t} x e g = shares-keeps c t (version-is-root (g .shares .before) x) e (g .shares)
+  holds-keeps c {t = t} x e g = shares-keeps c t (version-is-root (g .hands-out .before) x) e (g .hands-out)
 
   edited-keeps : (c : Call) {s : ℕ} {d : Edit} → handed (effect c) m ≡ editedAt d (m .lists s) → Edited ws s d a ws' → Keeps ws' (after c a m)
   edited-keeps c {s} {d} e g =
@@ -144,7 +142,7 @@ accepted-keeps : (c : Call) (ws ws' : List ℕ) (m : Model) (a : Answer) → Kee
 accepted-keeps (Call.format n v) ws ws' m a K g = rw (g .answer) (formatted-keeps g)
 accepted-keeps Call.new ws ws' m a K g = shares-keeps K Call.new leaf (no-root ws) refl g
 accepted-keeps (Call.hold s) ws ws' m a K g =
-    let x = version-of (g .shares .before) s (g .held) in
+    let x = version-of (g .hands-out .before) s (g .held) in
     holds-keeps K (Call.hold s) x (model-has K x) g
 accepted-keeps (Call.release s) ws ws' m a K g =
     rw (g .answer) (slot-keeps (released-one g) K none λ h. h .held (ap (λ (n : ℕ). slotRoot n ws' s) (same-nodes (g .others)) ∙ g .root-is))

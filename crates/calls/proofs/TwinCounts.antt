@@ -1,23 +1,22 @@
 -- Nodes that stand at the same place have the same count, as their names stand in pairs; so the two arenas are alike.
-use mathlib.Core.Path.{_≡_, refl, ap, sym, _∙_, subst}
+use mathlib.Core.Path.{_≡_, ap, sym, _∙_, subst}
 use mathlib.Core.Logic.{_⊎_, inl, inr, ⊎-elim}
-use mathlib.Core.Bool.{Bool, true}
-use mathlib.Core.List.{List, map}
-use Prim.Native.Nat.{ℕ, _+_, _≤_, _<_}
+use mathlib.Core.Bool.{Bool}
+use mathlib.Core.List.{List}
+use Prim.Native.Nat.{ℕ, _≤_, _<_}
 use native.Mathlib.Omega.{arith}
 use native.Mathlib.Decide.{ℕ-discrete}
 use lib.ListN.{length, getD}
-use Rattle.words.specs.Layout.{nodes, slots, left, right, count, slotRoot, slotSize, notHeld, maxNodes, headerWords, headWord}
-use Rattle.words.specs.Counting.{same, occ, run}
-use Rattle.words.specs.Reads.{Held}
-use Rattle.words.specs.Sound.{Reached, from-slot, from-left, from-right, named, Sound}
+use Rattle.words.specs.Layout.{nodes, slots, left, right, count, slotRoot, slotSize, maxNodes, headerWords, headWord}
+use Rattle.words.specs.Counting.{same, run}
+use Rattle.words.specs.Sound.{named, Sound}
 use Rattle.words.proofs.Counts.{same-eq, same-ne}
-use Rattle.words.proofs.SoundOwned.{reached-some, reached-in}
+use Rattle.words.proofs.SoundOwned.{reached-in}
 use Rattle.calls.specs.Alike.{Twins, at-slot, at-left, at-right, Match, Alike}
 use Rattle.calls.proofs.Versions.{held-or-not}
 use Rattle.calls.proofs.Pairing.{over, occ-over, over-run}
 use Rattle.calls.proofs.Facing.{swap, twin-reached, pairs-sum}
-use Rattle.calls.proofs.Beside.{Towards, BothNodes, twin-nodes, twin-one, facing}
+use Rattle.calls.proofs.Beside.{Towards, twin-nodes, twin-one, facing}
 
 -- Two numbers are equal exactly where two others are.
 same-both : (a b i j : ℕ) → (a ≡ i → b ≡ j) → (b ≡ j → a ≡ i) → same a i ≡ same b j

@@ -1,5 +1,5 @@
 -- The version of a slot is one tree; of a sound arena it is fine, with its stored size, and no taller than H of it.
-use mathlib.Core.Path.{_≡_, refl, ap, sym, _∙_, subst}
+use mathlib.Core.Path.{_≡_, ap, _∙_, subst}
 use mathlib.Core.Logic.{_⊎_, inl, inr, ⊎-elim}
 use mathlib.Core.List.{List, []}
 use Prim.Native.Nat.{ℕ, _≤_, _<_}
@@ -8,14 +8,13 @@ use native.Mathlib.Decide.{ℕ-discrete, decLt}
 use lib.ListN.{length}
 use Rattle.heights.specs.Height.{H}
 use Rattle.trees.specs.Tree.{Tree, listing, size, height}
-use Rattle.trees.specs.Listing.{Ascending}
 use Rattle.trees.specs.Shape.{Fine}
 use Rattle.trees.proofs.Low.{height-H}
 use Rattle.trees.proofs.Lookups.{size-listing}
-use Rattle.words.specs.Layout.{nodes, slots, slotRoot, slotSize, notHeld, maxNodes}
-use Rattle.words.specs.Reads.{Reads, Held}
+use Rattle.words.specs.Layout.{nodes, slots, slotRoot, slotSize, notHeld}
+use Rattle.words.specs.Reads.{Held}
 use Rattle.words.specs.Sound.{Sound}
-use Rattle.words.specs.Owned.{Live, Owned, Sized}
+use Rattle.words.specs.Owned.{Live, Sized}
 use Rattle.words.proofs.Holding.{reads-same, reads-link}
 use Rattle.words.proofs.OwnedLaws.{live-root}
 use Rattle.words.proofs.SoundOwned.{slot-fine, sound-owned}

@@ -1,27 +1,19 @@
 -- Document 01, "Walk": a front step takes the first of the entries that remain, a back step the last; so any mixing of steps gives each entry in range
 -- exactly once, and after END at one end both ends give END.
 use mathlib.Core.Path.{_≡_, refl, ap, sym, _∙_, subst}
-use mathlib.Core.Bool.{Bool, true, false, _&&_, true≢false}
+use mathlib.Core.Bool.{Bool, true, false, and-eq-true-iff, and-false}
 use mathlib.Core.List.{List, [], _∷_, _++_, append-assoc, append-nil}
 use mathlib.Core.Option.{Option, none, some}
 use Prim.Native.Nat.{ℕ, _≤_, _<_}
 use native.Mathlib.Omega.{arith}
 use borrow.Author.Tests.{lt-ltb, le-ltb}
 use Rattle.heights.specs.Choice.{if_then_else_}
-use Rattle.trees.specs.Tree.{Entry, Tree, listing}
+use Rattle.trees.specs.Tree.{Entry}
 use Rattle.trees.specs.Listing.{Above, Ascending, firstOf, lastOf, orElse}
-use Rattle.trees.specs.Range.{Bound, End, front, back, Range, fromStart, toEnd, past, afterFront, beforeBack, remains, keep, next, stepped, badRange}
+use Rattle.trees.specs.Range.{End, front, back, Range, fromStart, toEnd, past, afterFront, beforeBack, remains, keep, next, stepped}
 use Rattle.trees.proofs.Ranges.{after-front-up, before-back-down}
-use Rattle.trees.proofs.Extremes.{next-answers, Answers, Extreme}
-use Rattle.words.specs.Sound.{Sound}
-use Rattle.calls.specs.Refusal.{Refusal}
-use Rattle.calls.specs.Call.{Walk, Call, Answer}
-use Rattle.calls.specs.Version.{VersionIs}
-use Rattle.calls.specs.Given.{Given}
-use Rattle.calls.specs.Outcome.{Outcome}
+use Rattle.trees.proofs.Extremes.{next-answers, Answers}
 use Rattle.calls.specs.Walking.{remaining, Walked}
-use Rattle.calls.proofs.Decisions.{First, refused-outcome}
-use Rattle.calls.proofs.Determined.{determined}
 
 -- The entries of a listing that pass keep its order.
 above-keep : (p : Entry → Bool) (k : ℕ) (xs : List Entry) → Above k xs → Above k (keep p xs)
@@ -118,27 +110,18 @@ module _ (p p' : Entry → Bool) (e : Entry) where
       go true t h ih = only (lastOf (keep p xs)) refl t h ih
       go false t h ih = rw (f x (before h), t) (ih h)
 
-both-true : (a b : Bool) → a && b ≡ true → (a ≡ true) × (b ≡ true)
-both-true true true h = (refl, refl)
-both-true true false h = absurd (true≢false (sym h))
-both-true false b h = absurd (true≢false (sym h))
-
-and-false : (a : Bool) → a && false ≡ false
-and-false true = refl
-and-false false = refl
-
 -- What the caller keeps after a step that gave e lets through what is past e, as before, and nothing up to e.
 module _ (w : Range) (e : Entry) (passes : remains w e ≡ true) where
   after-e : afterFront w (e .key) ≡ true
-  after-e = both-true (afterFront w (e .key)) (beforeBack w (e .key)) passes .0
+  after-e = and-eq-true-iff (afterFront w (e .key)) (beforeBack w (e .key)) .0 passes .0
 
   before-e : beforeBack w (e .key) ≡ true
-  before-e = both-true (afterFront w (e .key)) (beforeBack w (e .key)) passes .1
+  before-e = and-eq-true-iff (afterFront w (e .key)) (beforeBack w (e .key)) .0 passes .1
 
   front-past : (y : Entry) → e .key < y .key → remains (stepped front w e) y ≡ remains w y
   front-past y l =
       let a = after-front-up w (e .key) (y .key) (omega arith) after-e in
-      let s = both-true (fromStart (w .start) (y .key)) (fromStart (past (w .given-front)) (y .key)) a in
+      let s = and-eq-true-iff (fromStart (w .start) (y .key)) (fromStart (past (w .given-front)) (y .key)) .0 a in
       rw (s .0, s .1, lt-ltb (e .key) (y .key) l)
 
   front-gone : (y : Entry) → y .key ≤ e .key → remains (stepped front w e) y ≡ false
@@ -147,7 +130,7 @@ module _ (w : Range) (e : Entry) (passes : remains w e ≡ true) where
   back-past : (y : Entry) → y .key < e .key → remains (stepped back w e) y ≡ remains w y
   back-past y l =
       let a = before-back-down w (y .key) (e .key) (omega arith) before-e in
-      let s = both-true (toEnd (w .end) (y .key)) (toEnd (past (w .given-back)) (y .key)) a in
+      let s = and-eq-true-iff (toEnd (w .end) (y .key)) (toEnd (past (w .given-back)) (y .key)) .0 a in
       rw (s .0, s .1, lt-ltb (y .key) (e .key) l)
 
   back-gone : (y : Entry) → e .key ≤ y .key → remains (stepped back w e) y ≡ false

@@ -1,62 +1,39 @@
 -- For the functions that write: the words that they leave, as the pure model of each write, make the call's outcome. One lemma a call.
-use mathlib.Core.Path.{_≡_, refl, ap, sym, _∙_, subst}
-use mathlib.Core.Logic.{_⊎_, inl, inr, ⊎-elim}
-use mathlib.Core.Bool.{true, false}
+use mathlib.Core.Path.{_≡_, refl}
 use mathlib.Core.List.{List, [], _∷_}
-use mathlib.Core.Option.{Option, none, some}
-use Prim.Native.Nat.{ℕ, _+_, _*_, _≤_, _<_}
+use mathlib.Core.Option.{none, some}
+use Prim.Native.Nat.{ℕ, _≤_, _<_}
 use native.Mathlib.Omega.{arith}
 use lib.ListN.{length}
 use Rattle.heights.specs.Height.{insertReserve, removeReserve}
-use Rattle.trees.specs.Tree.{Entry, Tree, listing, size, height}
+use Rattle.trees.specs.Tree.{Entry, Tree, listing, size}
 use Rattle.trees.specs.Listing.{find}
-use Rattle.trees.specs.Shape.{Fine}
 use Rattle.trees.specs.Edit.{Edit, setting, cutting, edit}
 use Rattle.trees.proofs.Edits.{fine-edit}
-use Rattle.words.specs.Layout.{nodes, slots, slotRoot, slotSize, notHeld, maxHeight, nodeWords, slotWords, rootWord}
-use Rattle.words.specs.Reads.{Reads, Held}
+use Rattle.words.specs.Layout.{nodes, slots, slotRoot, slotSize, maxHeight}
+use Rattle.words.specs.Reads.{Held}
 use Rattle.words.specs.Sound.{Limits, Sound, freeNumber}
-use Rattle.words.specs.Owned.{Live, Owned, Sized, Agree, Kept}
+use Rattle.words.specs.Owned.{Sized}
 use Rattle.words.specs.Model.{raising, releasing, slotting, unslotting}
-use Rattle.words.specs.Fresh.{wasFree}
 use Rattle.words.specs.Commit.{Built}
-use Rattle.words.proofs.Holding.{reads-link}
-use Rattle.words.proofs.Changes.{Outside, outside-nodes, outside-root, outside-size}
-use Rattle.words.proofs.Slotting.{InSlot, slotting-in, slotting-root, slotting-size, slot-count, slot-agree, slot-reads, put-owned, take-owned}
-use Rattle.words.proofs.Countups.{Grows}
 use Rattle.words.proofs.Committing.{Commits}
-use Rattle.words.proofs.SoundOwned.{sound-owned}
-use Rattle.words.proofs.OwnedSound.{owned-sound}
-use Rattle.words.proofs.Bounds.{reads-low}
 use Rattle.calls.specs.Refusal.{Refusal}
 use Rattle.calls.specs.Call.{Call, Answer}
 use Rattle.calls.specs.Table.{slotsOf, tests}
 use Rattle.calls.specs.Version.{VersionIs, Lowest}
 use Rattle.calls.specs.Given.{Given}
-use Rattle.calls.specs.Writing.{Formatted, Holds, Edited, Removed}
+use Rattle.calls.specs.Writing.{Formatted, HandsOutAgain, Edited, Removed}
 use Rattle.calls.specs.Outcome.{Outcome}
-use Rattle.calls.proofs.Versions.{version-one, version-fine, lowest-root}
-use Rattle.calls.proofs.OneSlot.{same-nodes, same-slots, in-slot-others, outside-others, others-trans}
-use Rattle.calls.proofs.Relabelling.{relabel-size, relabel-fine}
-use Rattle.calls.proofs.Decisions.{First, Passed, refused-outcome, accepted-outcome}
+use Rattle.calls.proofs.Versions.{version-fine}
+use Rattle.calls.proofs.Decisions.{First, refused-outcome, accepted-outcome}
 use Rattle.calls.proofs.Committed.{committed}
 use Rattle.calls.proofs.GivingUp.{released}
-use Rattle.calls.proofs.Passing.{
-  one-held,
-  not-unsound,
-  not-no-slot,
-  not-insert-room,
-  not-remove-room,
-  past-version,
-  passed-version,
-}
+use Rattle.calls.proofs.Passing.{one-held, not-unsound, not-no-slot, past-version}
+use Rattle.calls.proofs.NoneGiven.{format-passed, new-passed, hold-passed, release-passed, insert-passed, remove-passed}
 
 -- Format, by what it leaves.
 pub format-outcome : {n v : ℕ} {ws ws' : List ℕ} → Formatted n v ws Answer.done ws' → Outcome (Call.format n v) ws Answer.done ws'
-format-outcome {n} {v} {ws} {ws'} f = accepted-outcome (Call.format n v) ws Answer.done ws' (Passed.and no Passed.all) f
-  where
-    no : Given ws Refusal.bad-shape (Call.format n v) → ⊥
-    no (Given.bad-shape h) = h (f .limits)
+format-outcome {n} {v} {ws} {ws'} f = accepted-outcome (Call.format n v) ws Answer.done ws' (format-passed (f .limits)) f
 
 pub bad-shape-outcome : {n v : ℕ} {ws : List ℕ} → (Limits n v (length ws) → ⊥) → Outcome (Call.format n v) ws (Answer.refused Refusal.bad-shape) ws
 bad-shape-outcome f = refused-outcome (First.here (Given.bad-shape f))
@@ -70,7 +47,7 @@ release-outcome {ws} {s} S x =
     ws
     Answer.done
     (releasing maxHeight (unslotting (nodes ws) ws s) (slotRoot (nodes ws) ws s))
-    (passed-version refl S (one-held (x .held)) Passed.all)
+    (release-passed S (x .held))
     (released S x)
 
 -- All V slots held.
@@ -92,15 +69,15 @@ module _ {ws : List ℕ} {q : ℕ} (S : Sound ws) (low : Lowest ws q) where
       ws
       (Answer.slot q)
       (slotting (nodes ws) ws q 0 0)
-      (Passed.and (not-unsound S) (Passed.and (not-no-slot low) Passed.all))
+      (new-passed S low)
       (record { before = S; out = q; lowest = low; answer = refl; words-are = refl })
 
   module _ {s : ℕ} {t : Tree} (x : VersionIs ws s t) where
     abbrev doubled : List ℕ
     doubled = slotting (nodes ws) (raising ws (slotRoot (nodes ws) ws s)) q (slotRoot (nodes ws) ws s) (slotSize (nodes ws) ws s)
 
-    holds : Holds ws s (Answer.slot q) doubled
-    holds = record { held = x .held; shares = record { before = S; out = q; lowest = low; answer = refl; words-are = refl } }
+    holds : HandsOutAgain ws s (Answer.slot q) doubled
+    holds = record { held = x .held; hands-out = record { before = S; out = q; lowest = low; answer = refl; words-are = refl } }
 
     pub hold-outcome : Outcome (Call.hold s) ws (Answer.slot q) doubled
     hold-outcome =
@@ -109,7 +86,7 @@ module _ {ws : List ℕ} {q : ℕ} (S : Sound ws) (low : Lowest ws q) where
         ws
         (Answer.slot q)
         doubled
-        (passed-version refl S (one-held (x .held)) (Passed.and (not-no-slot low) Passed.all))
+        (hold-passed S (x .held) low)
         holds
 
     -- "fewer free nodes than the reserve"
@@ -139,7 +116,7 @@ module _ {ws : List ℕ} {q : ℕ} (S : Sound ws) (low : Lowest ws q) where
           ws
           (Answer.slot q)
           left-by
-          (passed-version refl S (one-held (x .held)) (Passed.and (not-no-slot low) (Passed.and (not-insert-room S x h) Passed.all)))
+          (insert-passed S x low e h)
           (edited C z-is)
 
       pub remove-outcome : (k : ℕ) {e : Entry} → find k (listing t) ≡ some e → removeReserve (size t) ≤ freeNumber S →
@@ -152,7 +129,7 @@ module _ {ws : List ℕ} {q : ℕ} (S : Sound ws) (low : Lowest ws q) where
           ws
           (Answer.slot q)
           left-by
-          (passed-version refl S (one-held (x .held)) (Passed.and (not-no-slot low) (Passed.and (not-remove-room S x (λ e i. h)) Passed.all)))
+          (remove-passed S x low k (λ e i. h))
           (Removed.present (edited C z-is) f)
 
     -- "remove of an absent key needs none": it is like hold.
@@ -163,7 +140,7 @@ module _ {ws : List ℕ} {q : ℕ} (S : Sound ws) (low : Lowest ws q) where
         ws
         (Answer.slot q)
         doubled
-        (passed-version refl S (one-held (x .held)) (Passed.and (not-no-slot low) (Passed.and (not-remove-room S x needs-none) Passed.all)))
+        (remove-passed S x low k needs-none)
         (Removed.absent x f holds)
       where
         needs-none : (e : Entry) → find k (listing t) ≡ some e → removeReserve (size t) ≤ freeNumber S

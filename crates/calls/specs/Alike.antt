@@ -41,7 +41,7 @@ pub record Alike (renamed : ℕ → Bool) (ws ws' : List ℕ) : Type 0 where
   pub one' : (i j k : ℕ) → Twins ws ws' i k → Twins ws ws' j k → i ≡ j
 
 -- "Exceptions ..: only which free node is taken, the order in which free nodes are listed, and what other words a free node keeps." Insert and
--- remove take nodes that were free on the words ws; release takes none; no other call comes near a free node, or format lists them in order.
+-- remove take nodes that were free on the words ws, release takes none. New and hold touch no free node, and format lists them all in order.
 abbrev pub renamedBy : Effect → List ℕ → Option (ℕ → Bool)
 renamedBy (Effect.formats n v) ws = none
 renamedBy Effect.makes ws = none
@@ -50,6 +50,7 @@ renamedBy (Effect.releases s) ws = some (λ i. false)
 renamedBy (Effect.edits s d) ws = some (wasFree ws)
 renamedBy Effect.reads ws = none
 
+-- Words that two runs of a call leave: equal, or where nodes are taken or freed equal but for the exceptions.
 abbrev pub SameBut : Option (ℕ → Bool) → List ℕ → List ℕ → Type 0
 SameBut none w w' = w ≡ w'
 SameBut (some renamed) w w' = (w ≡ w') ⊎ Alike renamed w w'

@@ -1,7 +1,7 @@
 -- "Format, new, hold, release, insert and remove write to the arena; no other call does."
 use Prim.Native.Nat.{ℕ}
 use Rattle.trees.specs.Edit.{Edit, setting, cutting}
-use Rattle.calls.specs.Call.{Walk, Call}
+use Rattle.calls.specs.Call.{Call}
 
 pub data Effect : Type 0 where
   formats : (n v : ℕ) → Effect

@@ -8,7 +8,7 @@ use lib.ListN.{length}
 use Rattle.heights.specs.Height.{insertReserve, removeReserve}
 use Rattle.trees.specs.Tree.{Entry, Tree, listing, size}
 use Rattle.trees.specs.Listing.{find, firstOf, lastOf}
-use Rattle.trees.specs.Range.{End, Range, next, badRange}
+use Rattle.trees.specs.Range.{End, next, badRange}
 use Rattle.words.specs.Layout.{slots}
 use Rattle.words.specs.Counting.{occ}
 use Rattle.words.specs.Reads.{Held}

@@ -5,24 +5,23 @@ use mathlib.Core.List.{List, [], _∷_}
 use mathlib.Core.Option.{some}
 use Prim.Native.Nat.{ℕ}
 use lib.ListN.{length}
-use Rattle.trees.specs.Tree.{Entry}
 use Rattle.trees.specs.Listing.{find, firstOf, lastOf}
 use Rattle.trees.specs.Edit.{setting}
-use Rattle.trees.specs.Range.{End, Range, next}
+use Rattle.trees.specs.Range.{next}
 use Rattle.trees.specs.Order
 use Rattle.calls.specs.Refusal.{Refusal}
-use Rattle.calls.specs.Call.{Walk, Call, Answer}
+use Rattle.calls.specs.Call.{Call, Answer}
 use Rattle.calls.specs.Table.{tests}
 use Rattle.calls.specs.Given.{Given}
 use Rattle.calls.specs.Reading.{Tells, TellsBoth, TellsFree, TellsSound, answerBy, valueOf, marked}
-use Rattle.calls.specs.Writing.{Formatted, Shares, Holds, Edited, Removed, Released}
+use Rattle.calls.specs.Writing.{Formatted, HandsOutRoot, HandsOutAgain, Edited, Removed, GivenUp}
 
 -- What an accepted call answers and leaves.
 abbrev pub Accepted : Call → List ℕ → Answer → List ℕ → Type 0
 Accepted (Call.format n v) ws a ws' = Formatted n v ws a ws'
-Accepted Call.new ws a ws' = Shares ws 0 0 a ws'
-Accepted (Call.hold s) ws a ws' = Holds ws s a ws'
-Accepted (Call.release s) ws a ws' = Released ws s a ws'
+Accepted Call.new ws a ws' = HandsOutRoot ws 0 0 a ws'
+Accepted (Call.hold s) ws a ws' = HandsOutAgain ws s a ws'
+Accepted (Call.release s) ws a ws' = GivenUp ws s a ws'
 Accepted (Call.size s) ws a ws' = Tells ws s (λ xs. some (Answer.number (length xs))) a ws'
 Accepted Call.free-nodes ws a ws' = TellsFree ws a ws'
 Accepted (Call.get s k) ws a ws' = Tells ws s (λ xs. answerBy valueOf (find k xs)) a ws'

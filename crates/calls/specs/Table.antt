@@ -2,7 +2,7 @@
 use mathlib.Core.List.{List, [], _∷_}
 use Prim.Native.Nat.{ℕ}
 use Rattle.calls.specs.Refusal.{Refusal}
-use Rattle.calls.specs.Call.{Walk, Call}
+use Rattle.calls.specs.Call.{Call}
 
 -- The slots that a call names.
 abbrev pub slotsOf : Call → List ℕ

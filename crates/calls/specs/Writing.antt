@@ -7,21 +7,7 @@ use lib.ListN.{length, getD}
 use Rattle.trees.specs.Tree.{Entry, Tree, listing, size}
 use Rattle.trees.specs.Listing.{find}
 use Rattle.trees.specs.Edit.{Edit, cutting, edit}
-use Rattle.words.specs.Layout.{
-  nodes,
-  slots,
-  head,
-  count,
-  slotRoot,
-  slotSize,
-  notHeld,
-  nodeWords,
-  headerWords,
-  headWord,
-  keyWord,
-  leftWord,
-  countWord,
-}
+use Rattle.words.specs.Layout.{nodes, slots, head, count, slotRoot, slotSize, notHeld, nodeWords, headerWords, headWord, keyWord, leftWord, countWord}
 use Rattle.words.specs.Counting.{run}
 use Rattle.words.specs.Reads.{Held}
 use Rattle.words.specs.Sound.{Limits, Chain, Sound}
@@ -32,7 +18,7 @@ use Rattle.calls.specs.Version.{VersionIs, Lowest}
 use Rattle.words.specs.Fresh.{relabel, wasFree}
 
 -- "Format accepts any old contents, records the N and V it is given, makes all nodes free and no slot held." The nodes are listed in the order
--- of their numbers, and a node keeps its key, value, right link and colour.
+-- of their numbers, and a node keeps its key, value, right link and colour: every word is given.
 pub record Formatted (n v : ℕ) (ws : List ℕ) (a : Answer) (ws' : List ℕ) : Type 0 where
   pub limits : Limits n v (length ws)
   pub answer : a ≡ Answer.done
@@ -46,8 +32,8 @@ pub record Formatted (n v : ℕ) (ws : List ℕ) (a : Answer) (ws' : List ℕ) :
       getD ws' (nodeWords * i + k) 0 ≡ getD ws (nodeWords * i + k) 0
   pub not-held : (s : ℕ) → s < v → (slotRoot n ws' s ≡ notHeld) × (slotSize n ws' s ≡ 0)
 
--- A slot for a root that is there already, with its size: the two words of the slot, and one name more for the root.
-pub record Shares (ws : List ℕ) (root size : ℕ) (a : Answer) (ws' : List ℕ) : Type 0 where
+-- A slot for a root that is there already, or none, with its size: the two words of the slot, and one name more for the root.
+pub record HandsOutRoot (ws : List ℕ) (root size : ℕ) (a : Answer) (ws' : List ℕ) : Type 0 where
   pub before : Sound ws
   pub out : ℕ
   pub lowest : Lowest ws out
@@ -55,9 +41,9 @@ pub record Shares (ws : List ℕ) (root size : ℕ) (a : Answer) (ws' : List ℕ
   pub words-are : ws' ≡ slotting (nodes ws) (raising ws root) out root size
 
 -- "a second slot for the same version"
-pub record Holds (ws : List ℕ) (s : ℕ) (a : Answer) (ws' : List ℕ) : Type 0 where
+pub record HandsOutAgain (ws : List ℕ) (s : ℕ) (a : Answer) (ws' : List ℕ) : Type 0 where
   pub held : Held ws s
-  pub shares : Shares ws (slotRoot (nodes ws) ws s) (slotSize (nodes ws) ws s) a ws'
+  pub hands-out : HandsOutRoot ws (slotRoot (nodes ws) ws s) (slotSize (nodes ws) ws s) a ws'
 
 -- Outside the nodes all words are equal, but the head of the free list and the two words of slot q: N, V, the spare words, every other slot.
 pub record AllButSlot (q : ℕ) (ws ws' : List ℕ) : Type 0 where
@@ -67,7 +53,7 @@ pub record AllButSlot (q : ℕ) (ws ws' : List ℕ) : Type 0 where
   pub sizes : (s : ℕ) → s < slots ws → (s ≡ q → ⊥) → slotSize (nodes ws) ws' s ≡ slotSize (nodes ws) ws s
 
 -- A slot for the tree u: the tree that the words hold there is u, with the nodes that were free before the call read as fresh.
-pub record HandsOut (ws : List ℕ) (u : Tree) (a : Answer) (ws' : List ℕ) : Type 0 where
+pub record HandsOutTree (ws : List ℕ) (u : Tree) (a : Answer) (ws' : List ℕ) : Type 0 where
   pub before : Sound ws
   pub after : Sound ws'
   pub out : ℕ
@@ -86,15 +72,16 @@ pub record HandsOut (ws : List ℕ) (u : Tree) (a : Answer) (ws' : List ℕ) : T
 pub record Edited (ws : List ℕ) (s : ℕ) (d : Edit) (a : Answer) (ws' : List ℕ) : Type 0 where
   pub parent : Tree
   pub version : VersionIs ws s parent
-  pub hands-out : HandsOut ws (edit d parent) a ws'
+  pub hands-out : HandsOutTree ws (edit d parent) a ws'
 
+-- The version of slot s without the key k, by whether it is there.
 pub data Removed (ws : List ℕ) (s k : ℕ) (a : Answer) (ws' : List ℕ) : Type 0 where
   present : {e : Entry} (h : Edited ws s (cutting k) a ws') → find k (listing (h .parent)) ≡ some e → Removed ws s k a ws'
   -- "Remove of an absent key hands out a slot for the parent's own root .. it never reshapes."
-  absent : {t : Tree} → VersionIs ws s t → find k (listing t) ≡ none → Holds ws s a ws' → Removed ws s k a ws'
+  absent : {t : Tree} → VersionIs ws s t → find k (listing t) ≡ none → HandsOutAgain ws s a ws' → Removed ws s k a ws'
 
 -- The slot is given up; a node that is still live keeps its words but its count, which soundness gives.
-pub record Released (ws : List ℕ) (s : ℕ) (a : Answer) (ws' : List ℕ) : Type 0 where
+pub record GivenUp (ws : List ℕ) (s : ℕ) (a : Answer) (ws' : List ℕ) : Type 0 where
   pub before : Sound ws
   pub after : Sound ws'
   pub held : Held ws s

@@ -1,0 +1,5 @@
+pub mod Holdings
+pub mod Pushing
+pub mod Growing
+pub mod Looking
+pub mod Sounding

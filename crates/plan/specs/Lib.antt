@@ -1,0 +1,3 @@
+pub mod Scratch
+pub mod Held
+pub mod Steps

@@ -1,0 +1,15 @@
+use borrow.Author.Needs.{needs}
+use Rattle.reading.proofs.Entries.{header-inside, slot-inside, enter-beyond, enter-free, enter-held}
+use Rattle.reading.proofs.enter.Statement.{statement}
+use Rattle.reading.proofs.enter.Tie as tie
+
+pub enter-spec : {M : Type 1} → statement M
+enter-spec =
+    tie.close
+    (tie.spec
+    (λ c κs. search header-inside)
+    (λ c. search enter-beyond)
+    (λ c κs. search header-inside)
+    (λ c κs. search slot-inside)
+    (λ c. search enter-free)
+    (λ c. search enter-held))

@@ -1,0 +1,19 @@
+use borrow.Author.Needs.{needs}
+use Rattle.reading.proofs.Entries.{rooted}
+use Rattle.reading.proofs.Answering.{first-refused, first-absent, first-entry}
+use Rattle.reading.proofs.first.Statement.{statement}
+use Rattle.reading.proofs.first.Tie as tie
+
+pub first-spec : {M : Type 1} → statement M
+first-spec =
+    tie.close
+    (tie.spec
+    (λ c κs. search needs)
+    (λ c. search needs)
+    (λ c. search needs)
+    (λ c κs. search rooted)
+    (λ c. search needs)
+    (λ c. search needs)
+    (λ c. search first-absent)
+    (λ c. search first-refused)
+    (λ c. search first-entry))

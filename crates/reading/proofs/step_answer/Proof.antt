@@ -1,0 +1,13 @@
+use borrow.Author.Needs.{needs}
+use Rattle.reading.proofs.Answering.{step-entry, step-end}
+use Rattle.reading.proofs.step_answer.Statement.{statement}
+use Rattle.reading.proofs.step_answer.Tie as tie
+
+pub step-answer-spec : {M : Type 1} → statement M
+step-answer-spec =
+    tie.close
+    (tie.spec
+    (λ c. search needs)
+    (λ c. search needs)
+    (λ c. search step-entry)
+    (λ c. search step-end))

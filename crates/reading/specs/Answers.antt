@@ -1,0 +1,65 @@
+-- The page's answers, from the answers that the functions give.
+use Prim.Native.Nat.{ℕ}
+use Rattle.trees.specs.Order as order
+use Rattle.arena.specs.Nodes.{entryOf}
+use Rattle.lookup.specs.Finding.{rangeOf}
+use Rattle.lookup.specs.declared.Found.{Found}
+use Rattle.lookup.specs.declared.Found.the-variants.{At, Nothing}
+use Rattle.calls.specs.Refusal as calls
+use Rattle.calls.specs.Call as call
+use Rattle.reading.specs.declared.Refusal.{Refusal}
+use Rattle.reading.specs.declared.Refusal.the-variants.{BadShape, Unsound, NoVersion, BadRange, Absent, NoSlot, NoRoom, End}
+use Rattle.reading.specs.declared.NumberAnswer.{NumberAnswer}
+use Rattle.reading.specs.declared.ValueAnswer.{ValueAnswer}
+use Rattle.reading.specs.declared.EntryAnswer.{EntryAnswer}
+use Rattle.reading.specs.declared.TruthAnswer.{TruthAnswer}
+use Rattle.reading.specs.declared.SignAnswer.{SignAnswer}
+use Rattle.reading.specs.declared.Sign.{Sign}
+use Rattle.reading.specs.declared.Sign.the-variants.{Less, Same, More}
+use Rattle.reading.specs.declared.Walk.{Walk}
+
+abbrev pub refusalOf : Refusal → calls.Refusal
+refusalOf BadShape = calls.Refusal.bad-shape
+refusalOf Unsound = calls.Refusal.unsound
+refusalOf NoVersion = calls.Refusal.no-version
+refusalOf BadRange = calls.Refusal.bad-range
+refusalOf Absent = calls.Refusal.absent
+refusalOf NoSlot = calls.Refusal.no-slot
+refusalOf NoRoom = calls.Refusal.no-room
+refusalOf End = calls.Refusal.ended
+
+abbrev pub refusalNumber : Refusal → ℕ
+refusalNumber r = calls.number (refusalOf r)
+
+abbrev pub numberAnswer : NumberAnswer → call.Answer
+numberAnswer (NumberAnswer.Number n) = call.Answer.number n
+numberAnswer (NumberAnswer.Refused r) = call.Answer.refused (refusalOf r)
+
+abbrev pub valueAnswer : ValueAnswer → call.Answer
+valueAnswer (ValueAnswer.Value v) = call.Answer.value v
+valueAnswer (ValueAnswer.Refused r) = call.Answer.refused (refusalOf r)
+
+abbrev pub entryAnswer : EntryAnswer → call.Answer
+entryAnswer (EntryAnswer.Entry e) = call.Answer.entry (entryOf e)
+entryAnswer (EntryAnswer.Refused r) = call.Answer.refused (refusalOf r)
+
+abbrev pub truthAnswer : TruthAnswer → call.Answer
+truthAnswer (TruthAnswer.Truth b) = call.Answer.truth b
+truthAnswer (TruthAnswer.Refused r) = call.Answer.refused (refusalOf r)
+
+abbrev pub signOf : Sign → order.Sign
+signOf Less = order.less
+signOf Same = order.same
+signOf More = order.more
+
+abbrev pub signAnswer : SignAnswer → call.Answer
+signAnswer (SignAnswer.Sign d) = call.Answer.sign (signOf d)
+signAnswer (SignAnswer.Refused r) = call.Answer.refused (refusalOf r)
+
+abbrev pub walkOf : Walk → call.Walk
+walkOf w = record { slot = w .slot; range = rangeOf (w .range) }
+
+-- A step's answer by what it found.
+abbrev pub stepped : Found → call.Answer
+stepped (At e) = call.Answer.entry (entryOf e)
+stepped Nothing = call.Answer.refused calls.Refusal.ended

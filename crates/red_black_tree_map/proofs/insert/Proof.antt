@@ -1,0 +1,17 @@
+use borrow.Author.Needs.{needs}
+use Rattle.red_black_tree_map.proofs.Tests.{tested-sound, tested-free, unsound-refused}
+use Rattle.red_black_tree_map.proofs.insert.Statement.{statement}
+use Rattle.red_black_tree_map.proofs.insert.Tie as tie
+
+pub insert-spec : {M : Type 1} → statement M
+insert-spec =
+    tie.close
+    (tie.spec
+    (λ c κs. search needs)
+    (λ c. search needs)
+    (λ c. search needs)
+    (λ c. search needs)
+    (λ c. search unsound-refused)
+    (λ c κs. (search tested-sound, search tested-free))
+    (λ c. search needs)
+    (λ c. search needs))

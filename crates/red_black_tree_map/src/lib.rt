@@ -1,0 +1,158 @@
+// The public calls of document 01: any words, slots, keys and ranges may come in. Each call tests the arena and then does what the table says.
+use arena::Entry;
+use reading::EntryAnswer;
+use reading::NumberAnswer;
+use reading::Refusal;
+use reading::TruthAnswer;
+use reading::ValueAnswer;
+use reading::Walk;
+use soundness::Tested;
+use soundness::test;
+use writing::DoneAnswer;
+use writing::SlotAnswer;
+ghost use Rattle.trees.specs.Range.{front as atFront, back as atBack};
+ghost use Rattle.arena.specs.Nodes.{entryOf};
+ghost use Rattle.calls.specs.Call.{Call, Answer};
+ghost use Rattle.calls.specs.Outcome.{Outcome};
+ghost use Rattle.reading.specs.Answers.{walkOf, numberAnswer, valueAnswer, entryAnswer, truthAnswer};
+ghost use Rattle.writing.specs.Slots.{slotAnswer, doneAnswer};
+
+// A slot for a new empty version.
+pub fn new_version(ws: &mut [u32]) -> SlotAnswer
+    ensures { λ r. ⌜ Outcome Call.new (now (ws .entry)) (slotAnswer r) (now (ws .exit)) ⌝ }
+{
+    let Tested::Sound(_) = test(ws) else {
+        return SlotAnswer::Refused(Refusal::Unsound);
+    };
+    writing::new_version(ws)
+}
+
+// A second slot for the version of slot s.
+pub fn hold(ws: &mut [u32], s: u32) -> SlotAnswer
+    ensures { λ r. ⌜ Outcome (Call.hold s) (now (ws .entry)) (slotAnswer r) (now (ws .exit)) ⌝ }
+{
+    let Tested::Sound(_) = test(ws) else {
+        return SlotAnswer::Refused(Refusal::Unsound);
+    };
+    writing::hold(ws, s)
+}
+
+// Slot s is given up.
+pub fn release(ws: &mut [u32], s: u32) -> DoneAnswer
+    ensures { λ r. ⌜ Outcome (Call.release s) (now (ws .entry)) (doneAnswer r) (now (ws .exit)) ⌝ }
+{
+    let Tested::Sound(_) = test(ws) else {
+        return DoneAnswer::Refused(Refusal::Unsound);
+    };
+    writing::release(ws, s)
+}
+
+// The number of entries of slot s.
+pub fn size(ws: &[u32], s: u32) -> NumberAnswer
+    ensures { λ r. ⌜ Outcome (Call.size s) (now (ws .entry)) (numberAnswer r) (now (ws .entry)) ⌝ }
+{
+    let Tested::Sound(_) = test(ws) else {
+        return NumberAnswer::Refused(Refusal::Unsound);
+    };
+    reading::size(ws, s)
+}
+
+// How many nodes are free.
+pub fn free_nodes(ws: &[u32]) -> NumberAnswer
+    ensures { λ r. ⌜ Outcome Call.free-nodes (now (ws .entry)) (numberAnswer r) (now (ws .entry)) ⌝ }
+{
+    let Tested::Sound(free) = test(ws) else {
+        return NumberAnswer::Refused(Refusal::Unsound);
+    };
+    NumberAnswer::Number(free)
+}
+
+// The value at the key.
+pub fn get(ws: &[u32], s: u32, key: u32) -> ValueAnswer
+    ensures { λ r. ⌜ Outcome (Call.get s key) (now (ws .entry)) (valueAnswer r) (now (ws .entry)) ⌝ }
+{
+    let Tested::Sound(_) = test(ws) else {
+        return ValueAnswer::Refused(Refusal::Unsound);
+    };
+    reading::get(ws, s, key)
+}
+
+// The entry with the least key.
+pub fn first(ws: &[u32], s: u32) -> EntryAnswer
+    ensures { λ r. ⌜ Outcome (Call.first s) (now (ws .entry)) (entryAnswer r) (now (ws .entry)) ⌝ }
+{
+    let Tested::Sound(_) = test(ws) else {
+        return EntryAnswer::Refused(Refusal::Unsound);
+    };
+    reading::first(ws, s)
+}
+
+// The entry with the greatest key.
+pub fn last(ws: &[u32], s: u32) -> EntryAnswer
+    ensures { λ r. ⌜ Outcome (Call.last s) (now (ws .entry)) (entryAnswer r) (now (ws .entry)) ⌝ }
+{
+    let Tested::Sound(_) = test(ws) else {
+        return EntryAnswer::Refused(Refusal::Unsound);
+    };
+    reading::last(ws, s)
+}
+
+// A slot for the version of slot s with the entry set.
+pub fn insert(ws: &mut [u32], s: u32, e: Entry) -> SlotAnswer
+    ensures { λ r. ⌜ Outcome (Call.insert s (entryOf e)) (now (ws .entry)) (slotAnswer r) (now (ws .exit)) ⌝ }
+{
+    let Tested::Sound(free) = test(ws) else {
+        return SlotAnswer::Refused(Refusal::Unsound);
+    };
+    writing::insert(ws, s, e, free)
+}
+
+// A slot for the version of slot s without the key.
+pub fn remove(ws: &mut [u32], s: u32, key: u32) -> SlotAnswer
+    ensures { λ r. ⌜ Outcome (Call.remove s key) (now (ws .entry)) (slotAnswer r) (now (ws .exit)) ⌝ }
+{
+    let Tested::Sound(free) = test(ws) else {
+        return SlotAnswer::Refused(Refusal::Unsound);
+    };
+    writing::remove(ws, s, key, free)
+}
+
+// The least entry of the walk that is left.
+pub fn step_front(ws: &[u32], w: Walk) -> EntryAnswer
+    ensures { λ r. ⌜ Outcome (Call.step atFront (walkOf w)) (now (ws .entry)) (entryAnswer r) (now (ws .entry)) ⌝ }
+{
+    let Tested::Sound(_) = test(ws) else {
+        return EntryAnswer::Refused(Refusal::Unsound);
+    };
+    reading::step_front(ws, w)
+}
+
+// The greatest entry of the walk that is left.
+pub fn step_back(ws: &[u32], w: Walk) -> EntryAnswer
+    ensures { λ r. ⌜ Outcome (Call.step atBack (walkOf w)) (now (ws .entry)) (entryAnswer r) (now (ws .entry)) ⌝ }
+{
+    let Tested::Sound(_) = test(ws) else {
+        return EntryAnswer::Refused(Refusal::Unsound);
+    };
+    reading::step_back(ws, w)
+}
+
+// Whether the version of slot s holds (0028,1053).
+pub fn rescale_mark(ws: &[u32], s: u32) -> TruthAnswer
+    ensures { λ r. ⌜ Outcome (Call.rescale-mark s) (now (ws .entry)) (truthAnswer r) (now (ws .entry)) ⌝ }
+{
+    let Tested::Sound(_) = test(ws) else {
+        return TruthAnswer::Refused(Refusal::Unsound);
+    };
+    reading::rescale_mark(ws, s)
+}
+
+// Whether the arena is sound.
+pub fn sound(ws: &[u32]) -> bool
+    ensures { λ r. ⌜ Outcome Call.soundness-test (now (ws .entry)) (Answer.truth r) (now (ws .entry)) ⌝ }
+{
+    match test(ws) {
+        Tested::Sound(_) => true,
+        Tested::Unsound => false,
+    }
+}

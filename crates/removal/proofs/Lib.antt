@@ -1,0 +1,4 @@
+pub mod Sibling
+pub mod Joining
+pub mod Deleting
+pub mod Present

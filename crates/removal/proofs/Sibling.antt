@@ -1,0 +1,172 @@
+-- The cases of `remove_balance`, `remove_balance_left` and `remove_balance_right` on links.
+use mathlib.Core.Path.{_≡_, refl, sym, ap, _∙_}
+use mathlib.Core.Bool.{Bool, true, false, _&&_}
+use mathlib.Core.List.{List}
+use Prim.Native.Nat.{ℕ}
+use native.Mathlib.Omega.{arith}
+use lib.Dec.{eqb}
+use Rattle.heights.specs.Choice.{if_then_else_}
+use Rattle.trees.specs.Tree.{Entry, Color, red, black, fresh, Tree, node, lf, rt, en, isRed, isBlack, paint}
+use Rattle.trees.specs.Insert.{balance}
+use Rattle.trees.specs.Remove.{removeBalance, turnLeft, turnRight, removeBalanceLeft, removeBalanceRight}
+use Rattle.words.specs.Layout.{code}
+use Rattle.arena.specs.declared.Node.{Node}
+use Rattle.arena.specs.Nodes.{entryOf}
+use Rattle.plan.specs.Held.{Holds, Some, Room}
+use Rattle.plan.specs.Steps.{Grown, Looks, Steps, itself, Paints}
+use Rattle.plan.proofs.Holdings.{unique}
+use Rattle.plan.proofs.Growing.{room-after, onward, some-kept}
+use Rattle.plan.proofs.Looking.{is-red, not-red, is-black, not-black, pair-both}
+use Rattle.insertion.specs.Contracts.{balanceRoom}
+use Rattle.removal.specs.Contracts.{sideRoom, balanceLeft, balanceRight, turnedLeft, turnedRight, Leans}
+
+-- After a side was painted red.
+module _ {ws p q : List ℕ} {link r : ℕ} (P : Paints ws p q link r (code red)) where
+  pub some-painted : Some ws p link → Some ws q r
+  some-painted s = record { tree = paint red (s .tree); held = P .holds red refl (s .held) }
+
+  pub some-beside : {i : ℕ} → Some ws p i → Some ws q i
+  some-beside s = some-kept (P .grown) s
+
+  pub room-painted : Room ws p sideRoom → Room ws q balanceRoom
+  room-painted R = room-after R (P .grown) (omega arith)
+
+-- `remove_balance`.
+module _ {ws p : List ℕ} {x l r : Node} {b : Bool} (L : Looks ws p (x .left) l) (R : Looks ws p (x .right) r)
+    (e : b ≡ eqb (l .color) 0 && eqb (r .color) 0) where
+  pub both-reds : {q s u : List ℕ} {m n res : ℕ} → b ≡ true → Paints ws p q (x .left) m (code black) → Paints ws q s (x .right) n (code black) →
+      Steps ws s u 1 (record { entry = x .entry; left = m; right = n; color = code red }) res itself → Steps ws p u balanceRoom x res removeBalance
+  unfolding removeBalance
+  both-reds f M N S = record {
+    grown = onward (M .grown) (onward {k = 2} (N .grown) (S .grown) (omega arith)) (omega arith);
+    holds = λ k ha hb.
+        rw
+        (pair-both L e R ha hb ∙ f)
+        (S .holds {c = red} refl (N .grown .keeps (M .holds black refl ha)) (N .holds black refl (M .grown .keeps hb)));
+  }
+
+  pub not-both : {q : List ℕ} {res : ℕ} → b ≡ false → Steps ws p q balanceRoom x res balance → Steps ws p q balanceRoom x res removeBalance
+  unfolding removeBalance
+  not-both f S = record { grown = S .grown; holds = λ k ha hb. rw (pair-both L e R ha hb ∙ f) (S .holds k ha hb) }
+
+-- After the first of two sides was painted black.
+module _ {ws p q : List ℕ} {link r : ℕ} (P : Paints ws p q link r (code black)) where
+  pub room-second : Room ws p balanceRoom → Room ws q 1
+  room-second R = room-after R (P .grown) (omega arith)
+
+  pub some-second : {i : ℕ} → Some ws p i → Some ws q i
+  some-second s = some-kept (P .grown) s
+
+-- The two sides of x, as they were read.
+module _ {ws p : List ℕ} {x l : Node} (L : Looks ws p (x .left) l) where
+  -- `remove_balance_left`: a red left child is painted black.
+  pub red-left : {q s : List ℕ} {m res : ℕ} → l .color ≡ 0 → Paints ws p q (x .left) m (code black) →
+      Steps ws q s 1 (record { entry = x .entry; left = m; right = x .right; color = code red }) res itself → Steps ws p s sideRoom x res balanceLeft
+  unfolding removeBalanceLeft
+  red-left e M S = record {
+    grown = onward (M .grown) (S .grown) (omega arith);
+    holds = λ k ha hb.
+        rw (is-red L e ha) (S .holds {c = red} refl (M .holds black refl ha) (M .grown .keeps hb));
+  }
+
+  module _ {r : Node} (ne : l .color ≡ 0 → ⊥) (R : Looks ws p (x .right) r) where
+    -- A black right child is painted red, and the whole is balanced.
+    pub black-right : {q s : List ℕ} {n res : ℕ} → r .color ≡ 1 → Paints ws p q (x .right) n (code red) →
+        Steps ws q s balanceRoom (record { entry = x .entry; left = x .left; right = n; color = code black }) res removeBalance →
+        Steps ws p s sideRoom x res balanceLeft
+    unfolding removeBalanceLeft
+    black-right e N S = record {
+      grown = onward (N .grown) (S .grown) (omega arith);
+      holds = λ k ha hb.
+          rw
+          (not-red L ne ha, is-black R e hb)
+          (S .holds {c = black} refl (N .grown .keeps ha) (N .holds red refl hb));
+    }
+
+    -- Else it is red with a black left child.
+    pub turned-left : {q : List ℕ} {res : ℕ} → (r .color ≡ 1 → ⊥) → Leans ws p (x .right) lf → Steps ws p q sideRoom x res turnedLeft →
+        Steps ws p q sideRoom x res balanceLeft
+    unfolding removeBalanceLeft
+    turned-left nb W S = record {
+      grown = S .grown;
+      holds = λ {c} {a} {b} k ha hb.
+          let z : isBlack b ≡ false = not-black R nb hb in
+          let u : W .some .tree ≡ b = unique (W .some .held) hb in
+          let w : isRed b && isBlack (lf b) ≡ true = rw u at (W .leans) z in
+          rw (not-red L ne ha, z, w) (S .holds {c = c} k ha hb);
+    }
+
+-- The third arm: the black left child of the right child rises.
+pub left-turn : {ws p₀ p₁ p₂ p₃ p₄ : List ℕ} {x r m : Node} {n s a res : ℕ} → Looks ws p₀ (x .right) r → Looks ws p₀ (r .left) m →
+    Paints ws p₀ p₁ (r .right) n (code red) →
+    Steps ws p₁ p₂ balanceRoom (record { entry = r .entry; left = m .right; right = n; color = code black }) s removeBalance →
+    Steps ws p₂ p₃ 1 (record { entry = x .entry; left = x .left; right = m .left; color = code black }) a itself →
+    Steps ws p₃ p₄ 1 (record { entry = m .entry; left = a; right = s; color = code red }) res itself → Steps ws p₀ p₄ sideRoom x res turnedLeft
+left-turn R M N S A T = record {
+  grown = onward (N .grown) (onward {k = 5} (S .grown) (onward {k = 2} (A .grown) (T .grown) (omega arith)) (omega arith)) (omega arith);
+  holds = λ k ha hb.
+      let r = R .sees hb in
+      let m = M .sees (r .left-is) in
+      rw
+      (m .entry-is, r .entry-is)
+      (T .holds
+      {c = red}
+      refl
+      (A .holds {c = black} refl (S .grown .keeps (N .grown .keeps ha)) (S .grown .keeps (N .grown .keeps (m .left-is))))
+      (A .grown .keeps (S .holds {c = black} refl (N .grown .keeps (m .right-is)) (N .holds red refl (r .right-is)))));
+}
+
+-- `remove_balance_right`, the other way round.
+module _ {ws p : List ℕ} {x r : Node} (R : Looks ws p (x .right) r) where
+  pub red-right : {q s : List ℕ} {n res : ℕ} → r .color ≡ 0 → Paints ws p q (x .right) n (code black) →
+      Steps ws q s 1 (record { entry = x .entry; left = x .left; right = n; color = code red }) res itself → Steps ws p s sideRoom x res balanceRight
+  unfolding removeBalanceRight
+  red-right e N S = record {
+    grown = onward (N .grown) (S .grown) (omega arith);
+    holds = λ k ha hb.
+        rw (is-red R e hb) (S .holds {c = red} refl (N .grown .keeps ha) (N .holds black refl hb));
+  }
+
+  module _ {l : Node} (ne : r .color ≡ 0 → ⊥) (L : Looks ws p (x .left) l) where
+    pub black-left : {q s : List ℕ} {m res : ℕ} → l .color ≡ 1 → Paints ws p q (x .left) m (code red) →
+        Steps ws q s balanceRoom (record { entry = x .entry; left = m; right = x .right; color = code black }) res removeBalance →
+        Steps ws p s sideRoom x res balanceRight
+    unfolding removeBalanceRight
+    black-left e M S = record {
+      grown = onward (M .grown) (S .grown) (omega arith);
+      holds = λ k ha hb.
+          rw
+          (not-red R ne hb, is-black L e ha)
+          (S .holds {c = black} refl (M .holds red refl ha) (M .grown .keeps hb));
+    }
+
+    pub turned-right : {q : List ℕ} {res : ℕ} → (l .color ≡ 1 → ⊥) → Leans ws p (x .left) rt → Steps ws p q sideRoom x res turnedRight →
+        Steps ws p q sideRoom x res balanceRight
+    unfolding removeBalanceRight
+    turned-right nb W S = record {
+      grown = S .grown;
+      holds = λ {c} {a} {b} k ha hb.
+          let z : isBlack a ≡ false = not-black L nb ha in
+          let u : W .some .tree ≡ a = unique (W .some .held) ha in
+          let w : isRed a && isBlack (rt a) ≡ true = rw u at (W .leans) z in
+          rw (not-red R ne hb, z, w) (S .holds {c = c} k ha hb);
+    }
+
+pub right-turn : {ws p₀ p₁ p₂ p₃ p₄ : List ℕ} {x l m : Node} {n s a res : ℕ} → Looks ws p₀ (x .left) l → Looks ws p₀ (l .right) m →
+    Paints ws p₀ p₁ (l .left) n (code red) →
+    Steps ws p₁ p₂ balanceRoom (record { entry = l .entry; left = n; right = m .left; color = code black }) s removeBalance →
+    Steps ws p₂ p₃ 1 (record { entry = x .entry; left = m .right; right = x .right; color = code black }) a itself →
+    Steps ws p₃ p₄ 1 (record { entry = m .entry; left = s; right = a; color = code red }) res itself → Steps ws p₀ p₄ sideRoom x res turnedRight
+right-turn L M N S A T = record {
+  grown = onward (N .grown) (onward {k = 5} (S .grown) (onward {k = 2} (A .grown) (T .grown) (omega arith)) (omega arith)) (omega arith);
+  holds = λ k ha hb.
+      let l = L .sees ha in
+      let m = M .sees (l .right-is) in
+      rw
+      (m .entry-is, l .entry-is)
+      (T .holds
+      {c = red}
+      refl
+      (A .grown .keeps (S .holds {c = black} refl (N .holds red refl (l .left-is)) (N .grown .keeps (m .left-is))))
+      (A .holds {c = black} refl (S .grown .keeps (N .grown .keeps (m .right-is))) (S .grown .keeps (N .grown .keeps hb))));
+}

@@ -1,0 +1,31 @@
+use borrow.Author.Needs.{needs}
+use Rattle.removal.proofs.Sibling.{some-painted, some-beside, room-painted, red-left, black-right, turned-left}
+use Rattle.removal.proofs.remove_balance_left.Statement.{statement}
+use Rattle.removal.proofs.remove_balance_left.Tie as tie
+
+remove-balance-requires : tie.Need-remove-balance-requires
+remove-balance-requires c κs =
+    let at-paint2 = c .before .before .before in
+    let at-start = at-paint2 .before .before .before .before .before .before .before .before .before .before .before .before in
+    (room-painted (at-paint2 .paint2 .ensures) (at-start .pre .0), (some-beside (at-paint2 .paint2 .ensures) (at-start .pre .1 .0), search (some-painted, (at-start .pre .1 .1 .some))))
+
+returns-3 : tie.Need-returns-3
+returns-3 c = search (turned-left, (c .before .before .before .before .before .before .before .before .before .before .before .before .before .before .pre .1 .1))
+
+pub remove-balance-left-spec : {M : Type 1} → statement M
+remove-balance-left-spec =
+    tie.close
+    (tie.spec
+    (λ c κs. search needs)
+    (λ c κs. search needs)
+    (λ c κs. search needs)
+    (λ c. search needs)
+    (λ c. search red-left)
+    (λ c κs. search needs)
+    (λ c κs. search needs)
+    remove-balance-requires
+    (λ c. search needs)
+    (λ c. search black-right)
+    (λ c κs. search needs)
+    (λ c. search needs)
+    returns-3)

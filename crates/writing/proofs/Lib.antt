@@ -1,0 +1,5 @@
+pub mod Opening
+pub mod Handing
+pub mod Committing
+pub mod Editing
+pub mod Outcomes

@@ -1,0 +1,20 @@
+use borrow.Author.Needs.{needs}
+use Rattle.reading.proofs.Entries.{header-inside, held-inside}
+use Rattle.writing.proofs.Handing.{release-holds, release-refused, release-told}
+use Rattle.writing.proofs.release.Statement.{statement}
+use Rattle.writing.proofs.release.Tie as tie
+
+pub release-spec : {M : Type 1} → statement M
+release-spec =
+    tie.close
+    (tie.spec
+    (λ c κs. search needs)
+    (λ c. search needs)
+    (λ c. search needs)
+    (λ c κs. search header-inside)
+    (λ c κs. search held-inside)
+    (λ c κs. search release-holds)
+    (λ c. search needs)
+    (λ c. search release-refused)
+    (λ c. search needs)
+    (λ c. search release-told))

@@ -1,0 +1,15 @@
+use borrow.Author.Needs.{needs}
+use Rattle.reading.proofs.Entries.{header-inside}
+use Rattle.writing.proofs.Handing.{share-raisable, share-inside, share-is}
+use Rattle.writing.proofs.share.Statement.{statement}
+use Rattle.writing.proofs.share.Tie as tie
+
+pub share-spec : {M : Type 1} → statement M
+share-spec =
+    tie.close
+    (tie.spec
+    (λ c κs. search (header-inside, needs))
+    (λ c κs. search share-raisable)
+    (λ c κs. search share-inside)
+    (λ c. search needs)
+    (λ c. search share-is))
