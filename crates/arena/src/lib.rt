@@ -13,11 +13,11 @@ pub const NODE_WORDS: usize = 6;
 
 pub const SLOT_WORDS: usize = 2;
 
-const NODES_WORD: usize = 0;
+pub const NODES_WORD: usize = 0;
 
-const SLOTS_WORD: usize = 1;
+pub const SLOTS_WORD: usize = 1;
 
-const HEAD_WORD: usize = 2;
+pub const HEAD_WORD: usize = 2;
 
 const KEY_WORD: usize = 2;
 
@@ -123,7 +123,7 @@ pub fn count_up(ws: &mut [u32], i: u32)
 }
 
 // Node i goes to the front of the free list.
-fn push_free(ws: &mut [u32], i: u32)
+pub fn push_free(ws: &mut [u32], i: u32)
     requires { ⌜ NodeInside (now ws) i ⌝ }
     ensures { λ _. ⌜ now (ws .exit) ≡ freeing (now (ws .entry)) i ⌝ }
 {

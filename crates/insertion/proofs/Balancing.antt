@@ -1,18 +1,17 @@
 -- The cases of `balance` on links.
 use mathlib.Core.Path.{_≡_, refl, sym, _∙_}
-use mathlib.Core.Bool.{Bool, true, false, not, _&&_}
+use mathlib.Core.Bool.{Bool, true, false, _&&_}
 use mathlib.Core.List.{List}
 use Prim.Native.Nat.{ℕ}
 use native.Mathlib.Omega.{arith}
 use lib.Dec.{eqb}
-use Rattle.heights.specs.Choice.{if_then_else_}
 use Rattle.trees.specs.Tree.{Entry, Color, red, black, fresh, Tree, node, lf, rt, en, isRed}
-use Rattle.trees.specs.Insert.{risen, balance, settle}
+use Rattle.trees.specs.Insert.{risen, balance}
 use Rattle.words.specs.Layout.{code}
 use Rattle.arena.specs.declared.Node.{Node}
 use Rattle.arena.specs.Nodes.{entryOf}
 use Rattle.plan.specs.Held.{Holds}
-use Rattle.plan.specs.Steps.{Grown, Looks, Steps, itself}
+use Rattle.plan.specs.Steps.{Looks, Steps, itself}
 use Rattle.plan.proofs.Holdings.{code-same}
 use Rattle.plan.proofs.Growing.{onward, grow-to}
 use Rattle.plan.proofs.Looking.{pair-left, pair-right}

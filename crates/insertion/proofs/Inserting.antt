@@ -1,24 +1,22 @@
 -- The cases of `settle`, `ins` and `insert` on links.
-use mathlib.Core.Path.{_≡_, refl, sym, ap, _∙_}
+use mathlib.Core.Path.{_≡_, refl}
 use mathlib.Core.Bool.{Bool, true, false, not}
 use mathlib.Core.List.{List}
-use Prim.Native.Nat.{ℕ, _+_, _*_, _-_, _≤_, _<_}
+use Prim.Native.Nat.{ℕ, _-_, _≤_, _<_}
 use native.Mathlib.Omega.{arith}
-use lib.Dec.{ltb}
 use borrow.Author.Tests.{lt-ltb, le-ltb}
-use Rattle.heights.specs.Choice.{if_then_else_}
-use Rattle.trees.specs.Tree.{Color, red, black, fresh, Tree, leaf, node, lf, rt, paint}
+use Rattle.trees.specs.Tree.{red, black, Tree, node, lf, rt}
 use Rattle.trees.specs.Lookup.{has}
 use Rattle.trees.specs.Insert.{balance, settle, ins, insert}
 use Rattle.words.specs.Layout.{code}
 use Rattle.arena.specs.declared.Entry.{Entry}
 use Rattle.arena.specs.declared.Node.{Node}
 use Rattle.arena.specs.Nodes.{entryOf}
-use Rattle.plan.specs.Held.{Holds, none, Held, Room}
+use Rattle.plan.specs.Held.{none, Held, Room}
 use Rattle.plan.specs.Steps.{Looks, Steps, itself, Turns, Paints}
 use Rattle.plan.proofs.Holdings.{is-leaf}
 use Rattle.plan.proofs.Growing.{room-less, room-after, onward, grow-to}
-use Rattle.plan.proofs.Looking.{Topped, topped, tall}
+use Rattle.plan.proofs.Looking.{topped, tall}
 use Rattle.insertion.specs.Contracts.{balanceRoom, insRoom, insertRoom, News}
 
 module _ {ws p p' : List ℕ} {x : Node} {new : Bool} {res : ℕ} where

@@ -1,12 +1,10 @@
 // 000's `balance` and `insert` on a read-only arena and a plan. Modules 4 and 5 of document 01's port order.
 ghost use mathlib.Core.Path.{_≡_};
 ghost use mathlib.Core.Bool.{not};
-ghost use mathlib.Core.List.{List};
-ghost use Prim.Native.Nat.{ℕ, _+_, _*_, _<_, _≤_};
 ghost use Rattle.trees.specs.Insert.{balance as balanceOf, settle as settleOf, ins as insOf, insert as insertOf};
 ghost use Rattle.arena.specs.Nodes.{entryOf};
 ghost use Rattle.plan.specs.Held.{Some, Held, Room};
-ghost use Rattle.plan.specs.Steps.{Looks, Steps, Turns};
+ghost use Rattle.plan.specs.Steps.{Steps, Turns};
 ghost use Rattle.insertion.specs.Contracts.{balanceRoom, insRoom, insertRoom, Rises, Calm, News};
 use arena::Entry;
 use arena::Node;

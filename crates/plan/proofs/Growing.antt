@@ -1,15 +1,11 @@
 -- Steps one after the other: what is left of the room, and what is still held.
-use mathlib.Core.Path.{_≡_, refl, _∙_}
+use mathlib.Core.Path.{refl, _∙_}
 use mathlib.Core.List.{List}
-use Prim.Native.Nat.{ℕ, _+_, _*_, _≤_, _<_}
+use Prim.Native.Nat.{ℕ, _+_, _≤_}
 use native.Mathlib.Omega.{arith}
-use lib.ListN.{length}
-use Rattle.trees.specs.Tree.{Color, Tree}
-use Rattle.words.specs.Layout.{code}
-use Rattle.arena.specs.declared.Node.{Node}
-use Rattle.plan.specs.Scratch.{used}
-use Rattle.plan.specs.Held.{Holds, Some, Room}
-use Rattle.plan.specs.Steps.{Grown, Steps, Turns, Paints}
+use Rattle.trees.specs.Tree.{Tree}
+use Rattle.plan.specs.Held.{Some, Room}
+use Rattle.plan.specs.Steps.{Grown, Steps, Turns}
 
 pub room-less : {ws plan : List ℕ} {j k : ℕ} → Room ws plan k → j ≤ k → Room ws plan j
 room-less h le = record { arena = h .arena; room = (let r = h .room in omega arith); links = (let l = h .links in omega arith) }

@@ -1,13 +1,13 @@
 -- Laws of `Holds`: a link holds one tree at most, and what a plan holds, one with the same nodes and more holds too.
-use mathlib.Core.Path.{_≡_, refl, sym, ap, subst, _∙_}
+use mathlib.Core.Path.{_≡_, refl, sym, subst, _∙_}
 use mathlib.Core.List.{List}
-use Prim.Native.Nat.{ℕ, _+_, _-_, _≤_, _<_}
+use Prim.Native.Nat.{ℕ, _-_, _≤_, _<_}
 use native.Mathlib.Omega.{arith}
-use Rattle.trees.specs.Tree.{Color, red, black, Place, kept, fresh, Tree, leaf, node, made}
+use Rattle.trees.specs.Tree.{Color, red, black, Tree, leaf, node, made}
 use Rattle.words.specs.Layout.{nodes, left, right, code}
-use Rattle.words.specs.Reads.{NodeIs, Reads}
+use Rattle.words.specs.Reads.{Reads}
 use Rattle.plan.specs.Scratch.{used, planEntry, planLeft, planRight, planColor}
-use Rattle.plan.specs.Held.{spot, PlanIs, Holds, none, shared, planned}
+use Rattle.plan.specs.Held.{spot, Holds, none, shared, planned}
 
 pub code-same : (c d : Color) → code c ≡ code d → c ≡ d
 code-same red red e = refl

@@ -2,18 +2,16 @@
 use mathlib.Core.Path.{_≡_, refl, sym, ap, ap₂, subst, _∙_}
 use mathlib.Core.Bool.{Bool, true, false, _&&_}
 use mathlib.Core.List.{List}
-use Prim.Native.Nat.{ℕ, _+_, _-_, _*_, _≤_, _<_}
+use Prim.Native.Nat.{ℕ, _+_, _-_, _≤_, _<_}
 use native.Mathlib.Omega.{arith}
 use lib.Dec.{eqb}
 use borrow.Author.Tests.{eq-eqb, ne-eqb}
-use lib.ListN.{length}
-use Rattle.trees.specs.Tree.{Color, red, black, Place, kept, fresh, Tree, leaf, node, lf, rt, en, isRed, isBlack, copy, height}
+use Rattle.trees.specs.Tree.{Color, red, black, Place, kept, fresh, Tree, leaf, node, lf, rt, isRed, isBlack, copy, height}
 use Rattle.words.specs.Layout.{nodes, code}
-use Rattle.words.specs.Reads.{NodeIs}
 use Rattle.arena.specs.declared.Node.{Node}
-use Rattle.arena.specs.Nodes.{entryOf, NodeInside, IsNode}
-use Rattle.plan.specs.Scratch.{used, PlanInside, IsPlanned}
-use Rattle.plan.specs.Held.{spot, PlanIs, Holds, none, shared, planned, Some, Held, Room}
+use Rattle.arena.specs.Nodes.{entryOf, IsNode}
+use Rattle.plan.specs.Scratch.{PlanInside, IsPlanned}
+use Rattle.plan.specs.Held.{spot, Holds, none, shared, planned, Some, Held, Room}
 use Rattle.plan.specs.Steps.{noColor, hue, Sees, Looks, Steps, itself, Turns, Paints}
 use Rattle.plan.proofs.Holdings.{is-leaf}
 use Rattle.plan.proofs.Growing.{no-growth}

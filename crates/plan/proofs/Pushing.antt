@@ -1,12 +1,12 @@
 -- One node more: the plan's other nodes are as they were, and the new link holds the tree with the new node at its top.
-use mathlib.Core.Path.{_≡_, refl, sym, ap, subst, _∙_}
-use mathlib.Core.Logic.{_⊎_, inl, inr}
+use mathlib.Core.Path.{_≡_, sym, ap, subst, _∙_}
+use mathlib.Core.Logic.{inl}
 use mathlib.Core.List.{List}
 use Prim.Native.Nat.{ℕ, _+_, _*_, _-_, _≤_, _<_}
 use native.Mathlib.Omega.{arith}
-use lib.ListN.{length, getD, set, length-set}
+use lib.ListN.{length, getD, length-set}
 use lib.Seq.{getD-set-same, getD-set-other}
-use Rattle.trees.specs.Tree.{Entry, Color, fresh, Tree, node}
+use Rattle.trees.specs.Tree.{Color, fresh, Tree, node}
 use Rattle.words.specs.Layout.{nodes, code}
 use Rattle.words.specs.Model.{storing}
 use Rattle.words.proofs.Stores.{length-storing, storing-other, storing-here}
@@ -29,7 +29,7 @@ use Rattle.plan.specs.Scratch.{
   pushed,
 }
 use Rattle.plan.specs.Held.{spot, PlanIs, Holds, planned, Room}
-use Rattle.plan.specs.Steps.{Grown, Steps, itself}
+use Rattle.plan.specs.Steps.{Steps, itself}
 use Rattle.plan.proofs.Holdings.{Agrees, frame}
 
 module _ (plan : List ℕ) (x : Node) (h : PlanInside plan (used plan + 1)) where

@@ -1,14 +1,13 @@
 -- What a sound arena gives: each version's root holds its tree beside any plan, and a scratch of zeros has room.
-use mathlib.Core.Path.{_≡_, refl}
+use mathlib.Core.Path.{_≡_}
 use mathlib.Core.List.{List}
 use Prim.Native.Nat.{ℕ, _+_, _*_, _≤_, _<_}
 use native.Mathlib.Omega.{arith}
-use lib.ListN.{length, getD, replicate, length-replicate, getD-replicate}
-use Rattle.words.specs.Layout.{nodes, slotRoot, nodeWords, headerWords, maxNodes, maxHeight, maxSlots}
+use lib.ListN.{replicate, length-replicate, getD-replicate}
+use Rattle.words.specs.Layout.{nodes, slotRoot, maxNodes, maxHeight}
 use Rattle.words.specs.Reads as reads
 use Rattle.words.specs.Sound.{Sound}
 use Rattle.words.proofs.Bounds.{version-low}
-use Rattle.arena.specs.Nodes.{NodeInside}
 use Rattle.plan.specs.Scratch.{planNodeWords, planHeaderWords, used}
 use Rattle.plan.specs.Held.{Holds, Held, Room, wordLimit}
 use Rattle.plan.proofs.Holdings.{reads-holds}

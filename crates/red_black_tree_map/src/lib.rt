@@ -3,6 +3,7 @@ use arena::Entry;
 use reading::EntryAnswer;
 use reading::NumberAnswer;
 use reading::Refusal;
+use reading::SignAnswer;
 use reading::TruthAnswer;
 use reading::ValueAnswer;
 use reading::Walk;
@@ -14,8 +15,15 @@ ghost use Rattle.trees.specs.Range.{front as atFront, back as atBack};
 ghost use Rattle.arena.specs.Nodes.{entryOf};
 ghost use Rattle.calls.specs.Call.{Call, Answer};
 ghost use Rattle.calls.specs.Outcome.{Outcome};
-ghost use Rattle.reading.specs.Answers.{walkOf, numberAnswer, valueAnswer, entryAnswer, truthAnswer};
+ghost use Rattle.reading.specs.Answers.{walkOf, numberAnswer, valueAnswer, entryAnswer, truthAnswer, signAnswer};
 ghost use Rattle.writing.specs.Slots.{slotAnswer, doneAnswer};
+
+// Records N and V, makes all nodes free and no slot held. Any old contents will do.
+pub fn format(ws: &mut [u32], n: u32, v: u32) -> DoneAnswer
+    ensures { λ r. ⌜ Outcome (Call.format n v) (now (ws .entry)) (doneAnswer r) (now (ws .exit)) ⌝ }
+{
+    formatting::format(ws, n, v)
+}
 
 // A slot for a new empty version.
 pub fn new_version(ws: &mut [u32]) -> SlotAnswer
@@ -115,6 +123,26 @@ pub fn remove(ws: &mut [u32], s: u32, key: u32) -> SlotAnswer
         return SlotAnswer::Refused(Refusal::Unsound);
     };
     writing::remove(ws, s, key, free)
+}
+
+// The order of the versions of slots s and t.
+pub fn compare(ws: &[u32], s: u32, t: u32) -> SignAnswer
+    ensures { λ r. ⌜ Outcome (Call.compare s t) (now (ws .entry)) (signAnswer r) (now (ws .entry)) ⌝ }
+{
+    let Tested::Sound(_) = test(ws) else {
+        return SignAnswer::Refused(Refusal::Unsound);
+    };
+    comparing::compare(ws, s, t)
+}
+
+// Whether the versions of slots s and t list the same.
+pub fn equal(ws: &[u32], s: u32, t: u32) -> TruthAnswer
+    ensures { λ r. ⌜ Outcome (Call.equal s t) (now (ws .entry)) (truthAnswer r) (now (ws .entry)) ⌝ }
+{
+    let Tested::Sound(_) = test(ws) else {
+        return TruthAnswer::Refused(Refusal::Unsound);
+    };
+    comparing::equal(ws, s, t)
 }
 
 // The least entry of the walk that is left.

@@ -1,25 +1,22 @@
 -- The cases of `del`, `del_left` and `del_right` on links.
-use mathlib.Core.Path.{_≡_, refl, sym, ap, subst, _∙_}
+use mathlib.Core.Path.{_≡_, refl, ap}
 use mathlib.Core.Bool.{true, false, true≢false, false≢true, _&&_}
 use mathlib.Core.List.{List}
-use Prim.Native.Nat.{ℕ, suc, _+_, _*_, _-_, _≤_, _<_}
+use Prim.Native.Nat.{ℕ, _+_, _*_, _-_, _≤_, _<_}
 use native.Mathlib.Omega.{arith}
-use lib.Dec.{ltb}
 use borrow.Author.Tests.{lt-ltb, le-ltb}
-use Rattle.heights.specs.Choice.{if_then_else_}
-use Rattle.trees.specs.Tree.{Entry, Color, red, black, Place, fresh, Tree, leaf, node, lf, rt, en, isRed, isBlack, height}
+use Rattle.trees.specs.Tree.{red, black, Tree, lf, rt, isRed, isBlack, height}
 use Rattle.trees.specs.Shape.{Rb, rb-leaf, rb-red, rb-black}
 use Rattle.trees.specs.Remove.{fuse, del, delLeft, delRight}
 use Rattle.trees.proofs.RemoveLaws.{not-red-black}
 use Rattle.words.specs.Layout.{code}
 use Rattle.arena.specs.declared.Node.{Node}
-use Rattle.arena.specs.Nodes.{entryOf}
-use Rattle.plan.specs.Held.{Holds, none, Some, Room}
+use Rattle.plan.specs.Held.{none, Some, Room}
 use Rattle.plan.specs.Steps.{Grown, Looks, Steps, itself, Turns}
 use Rattle.plan.proofs.Holdings.{is-leaf}
-use Rattle.plan.proofs.Growing.{room-less, room-after, no-growth, onward, grow-to, some-kept, some-turned}
+use Rattle.plan.proofs.Growing.{room-less, room-after, no-growth, onward, grow-to}
 use Rattle.plan.proofs.Looking.{is-black, not-black, Topped, topped}
-use Rattle.removal.specs.Contracts.{sideRoom, fuseRoom, delRoom, balanceLeft, balanceRight, cutLeft, cutRight, Leans, Twin, Joins, Shaped, RedBlack, Sides}
+use Rattle.removal.specs.Contracts.{sideRoom, fuseRoom, delRoom, balanceLeft, balanceRight, cutLeft, cutRight, Leans, Twin, Joins, RedBlack, Sides}
 
 -- The sides of a red-black tree have as many black levels as one another.
 record Halves (t : Tree) : Type 0 where

@@ -1,11 +1,10 @@
 -- The cases of `remove_fuse` on links.
-use mathlib.Core.Path.{_≡_, refl, sym, ap, ap₂, subst, _∙_}
-use mathlib.Core.Bool.{true, false, true≢false, _&&_}
+use mathlib.Core.Path.{_≡_, refl, sym, ap, ap₂, _∙_}
+use mathlib.Core.Bool.{true, false, true≢false}
 use mathlib.Core.List.{List}
-use Prim.Native.Nat.{ℕ, suc, _+_, _*_, _-_, _≤_, _<_}
+use Prim.Native.Nat.{ℕ, _-_, _≤_, _<_}
 use native.Mathlib.Omega.{arith}
-use Rattle.heights.specs.Choice.{if_then_else_}
-use Rattle.trees.specs.Tree.{Entry, Color, red, black, Place, fresh, Tree, leaf, node, lf, rt, en, isRed, isBlack, copy, height}
+use Rattle.trees.specs.Tree.{Entry, Color, red, black, Place, fresh, Tree, node, lf, rt, copy, height}
 use Rattle.trees.specs.Remove.{join, fuse}
 use Rattle.trees.proofs.Fusing as fusing
 use Rattle.words.specs.Layout.{code}

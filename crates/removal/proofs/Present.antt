@@ -2,9 +2,8 @@
 use mathlib.Core.Path.{_≡_, refl}
 use mathlib.Core.Bool.{true}
 use mathlib.Core.List.{List}
-use Prim.Native.Nat.{ℕ, _+_, _*_}
+use Prim.Native.Nat.{ℕ}
 use native.Mathlib.Omega.{arith}
-use Rattle.heights.specs.Choice.{if_then_else_}
 use Rattle.trees.specs.Tree.{Tree, black, paint}
 use Rattle.trees.specs.Lookup.{has}
 use Rattle.trees.specs.Remove.{del, remove}
@@ -12,7 +11,6 @@ use Rattle.words.specs.Layout.{nodes, slotRoot, code, maxHeight}
 use Rattle.words.specs.Reads as reads
 use Rattle.words.specs.Sound.{Sound}
 use Rattle.words.proofs.Bounds.{version-low}
-use Rattle.plan.specs.Held.{Holds}
 use Rattle.plan.specs.Steps.{Turns, Paints}
 use Rattle.plan.proofs.Growing.{onward}
 use Rattle.plan.proofs.Sounding.{sound-holds}

@@ -1,19 +1,17 @@
 -- The cases of `remove_balance`, `remove_balance_left` and `remove_balance_right` on links.
-use mathlib.Core.Path.{_≡_, refl, sym, ap, _∙_}
+use mathlib.Core.Path.{_≡_, refl, _∙_}
 use mathlib.Core.Bool.{Bool, true, false, _&&_}
 use mathlib.Core.List.{List}
 use Prim.Native.Nat.{ℕ}
 use native.Mathlib.Omega.{arith}
 use lib.Dec.{eqb}
-use Rattle.heights.specs.Choice.{if_then_else_}
-use Rattle.trees.specs.Tree.{Entry, Color, red, black, fresh, Tree, node, lf, rt, en, isRed, isBlack, paint}
+use Rattle.trees.specs.Tree.{red, black, lf, rt, isRed, isBlack, paint}
 use Rattle.trees.specs.Insert.{balance}
-use Rattle.trees.specs.Remove.{removeBalance, turnLeft, turnRight, removeBalanceLeft, removeBalanceRight}
+use Rattle.trees.specs.Remove.{removeBalance, removeBalanceLeft, removeBalanceRight}
 use Rattle.words.specs.Layout.{code}
 use Rattle.arena.specs.declared.Node.{Node}
-use Rattle.arena.specs.Nodes.{entryOf}
-use Rattle.plan.specs.Held.{Holds, Some, Room}
-use Rattle.plan.specs.Steps.{Grown, Looks, Steps, itself, Paints}
+use Rattle.plan.specs.Held.{Some, Room}
+use Rattle.plan.specs.Steps.{Looks, Steps, itself, Paints}
 use Rattle.plan.proofs.Holdings.{unique}
 use Rattle.plan.proofs.Growing.{room-after, onward, some-kept}
 use Rattle.plan.proofs.Looking.{is-red, not-red, is-black, not-black, pair-both}

@@ -1,7 +1,5 @@
 // 000's `remove_fuse`, `remove_balance` with its two sides, and `remove` on a read-only arena and a plan. Module 6 of document 01's port order.
-ghost use mathlib.Core.Path.{_≡_};
-ghost use mathlib.Core.List.{List};
-ghost use Prim.Native.Nat.{ℕ, _+_, _*_, _<_, _≤_};
+ghost use Prim.Native.Nat.{_+_};
 ghost use Rattle.trees.specs.Tree.{lf, rt};
 ghost use Rattle.trees.specs.Remove.{removeBalance, fuse, del as delOf};
 ghost use Rattle.plan.specs.Held.{Some, Room};

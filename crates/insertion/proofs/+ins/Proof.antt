@@ -1,5 +1,5 @@
 use borrow.Author.Needs.{needs}
-use Rattle.plan.proofs.Growing.{room-after, some-kept, some-turned}
+use Rattle.plan.proofs.Growing.{some-kept, some-turned}
 use Rattle.plan.proofs.Looking.{tall, held-left, held-right}
 use Rattle.insertion.proofs.Inserting.{ins-none, news-none, less-down, room-down, room-up, ins-here, news-here, ins-left, news-left, ins-right, news-right}
 use Prim.Native.Nat.{ℕ, _<_}

@@ -1,4 +1,3 @@
-use borrow.Author.Needs.{needs}
 use Rattle.plan.proofs.Looking.{first-red, first-not}
 use Rattle.plan.proofs.both_red.Statement.{statement}
 use Rattle.plan.proofs.both_red.Tie as tie

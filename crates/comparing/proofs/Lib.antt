@@ -1,0 +1,4 @@
+pub mod Rests
+pub mod Pairing
+pub mod Walking
+pub mod Answering

@@ -1,0 +1,106 @@
+// Document 01's format, on any words.
+use arena::HEAD_WORD;
+use arena::HEADER_WORDS;
+use arena::NODE_WORDS;
+use arena::NODES_WORD;
+use arena::SLOT_WORDS;
+use arena::SLOTS_WORD;
+use arena::push_free;
+use arena::put_slot;
+use reading::NOT_HELD;
+use reading::Refusal;
+use writing::DoneAnswer;
+ghost use mathlib.Core.Path.{_≡_};
+ghost use Prim.Native.Nat.{_≤_};
+ghost use lib.ListN.{length};
+ghost use Rattle.words.specs.Layout.{head, headerWords, arenaWords};
+ghost use Rattle.words.specs.Sound.{Limits};
+ghost use Rattle.soundness_laws.specs.Answer.{Decides};
+ghost use Rattle.arena.specs.Nodes.{NodeInside};
+ghost use Rattle.calls.specs.Call.{Call};
+ghost use Rattle.calls.specs.Outcome.{Outcome};
+ghost use Rattle.writing.specs.Slots.{doneAnswer};
+ghost use Rattle.formatting.specs.Steps.{Headed, FreeAbove, EmptyBelow};
+
+// "N is 1 to 2,047, V is 1 to 32."
+const MAX_NODES: u32 = 2047;
+
+const MAX_SLOTS: u32 = 32;
+
+// The first spare word of the header; the header's last word is the last of them.
+const SPARE_WORD: usize = 3;
+
+// Whether n and v are within their limits and agree with the length.
+fn fits(long: usize, n: u32, v: u32) -> bool
+    ensures { λ r. ⌜ Decides r (Limits n v long) ⌝ }
+{
+    if n == 0 {
+        return false;
+    }
+    if MAX_NODES < n {
+        return false;
+    }
+    if v == 0 {
+        return false;
+    }
+    if MAX_SLOTS < v {
+        return false;
+    }
+    if long != HEADER_WORDS + SLOT_WORDS * (v as usize) + NODE_WORDS * (n as usize) {
+        return false;
+    }
+    true
+}
+
+// The header of an arena without a free node.
+fn write_header(ws: &mut [u32], n: u32, v: u32)
+    requires { ⌜ headerWords ≤ length (now ws) ⌝ }
+    ensures { λ _. ⌜ Headed n v (now (ws .entry)) (now (ws .exit)) ⌝ }
+{
+    ws[NODES_WORD] = n;
+    ws[SLOTS_WORD] = v;
+    ws[HEAD_WORD] = 0;
+    ws[SPARE_WORD] = 0;
+    ws[SPARE_WORD + 1] = 0;
+    ws[SPARE_WORD + 2] = 0;
+    ws[SPARE_WORD + 3] = 0;
+    ws[SPARE_WORD + 4] = 0;
+}
+
+// Every node goes to the front of the free list, the last first: they are listed in the order of their numbers.
+fn free_nodes(ws: &mut [u32], n: u32)
+    requires { ⌜ NodeInside (now ws) n ⌝ }
+    requires { ⌜ head (now ws) ≡ 0 ⌝ }
+    ensures { λ _. ⌜ FreeAbove 0 n (now (ws .entry)) (now (ws .exit)) ⌝ }
+{
+    let mut i = n;
+    while 0 < i {
+        push_free(ws, i);
+        i -= 1;
+    }
+}
+
+// No slot is held.
+fn empty_slots(ws: &mut [u32], n: u32, v: u32)
+    requires { ⌜ arenaWords n v ≤ length (now ws) ⌝ }
+    ensures { λ _. ⌜ EmptyBelow v n (now (ws .entry)) (now (ws .exit)) ⌝ }
+{
+    let mut s = 0u32;
+    while s < v {
+        put_slot(ws, n, s, NOT_HELD, 0);
+        s += 1;
+    }
+}
+
+// "accepts any old contents, records the N and V it is given, makes all nodes free and no slot held"
+pub fn format(ws: &mut [u32], n: u32, v: u32) -> DoneAnswer
+    ensures { λ r. ⌜ Outcome (Call.format n v) (now (ws .entry)) (doneAnswer r) (now (ws .exit)) ⌝ }
+{
+    if !fits(ws.len(), n, v) {
+        return DoneAnswer::Refused(Refusal::BadShape);
+    }
+    write_header(ws, n, v);
+    free_nodes(ws, n);
+    empty_slots(ws, n, v);
+    DoneAnswer::Done
+}
