@@ -1,9 +1,7 @@
 // The commit of a planned tree: its fresh nodes are counted, the kept nodes that it names are counted up, and the fresh ones are made bottom up.
-use arena::Node;
 use arena::count_up;
 use arena::make_node;
 use plan::planned;
-ghost use Prim.Native.Nat.{ℕ, _≤_};
 ghost use Rattle.commit.specs.Planned.{Countable, Counts, Raisable, Raises, Buildable, Builds};
 
 // How many nodes the tree planned at the link makes; its height is h at most.

@@ -35,7 +35,7 @@ const LIFE: u32 = 160;
 // With so few entries, and no other version held, every removal finds room.
 const FEW_KEYS: u32 = 14;
 
-// Nodes, slots, words and keys of the large history, and how often it lists the version.
+// Nodes, slots, words and keys of the large history.
 const LARGE_NODES: u32 = 2047;
 
 const LARGE_SLOTS: u32 = 32;
@@ -43,8 +43,6 @@ const LARGE_SLOTS: u32 = 32;
 const LARGE_WORDS: usize = 12354;
 
 const LARGE_KEYS: usize = 4096;
-
-const SELDOM: u32 = 50;
 
 // Where the first part of the small history, all of it and the large one end.
 const SMALL_STEPS: u32 = 1000;
@@ -376,19 +374,11 @@ fn small_steps(ws: &mut [u32], table: &mut [u32], h: History, from: u32, to: u32
     next
 }
 
-// Lists the version at every fiftieth step, which the last one is.
-fn listed(ws: &[u32], table: &[u32], h: History, step: u32) -> History {
-    if more(step) % SELDOM == 0 {
-        return expect(h, lists(ws, h.cur, table));
-    }
-    h
-}
-
 // One step of the large history, and its tests.
 fn large_step(ws: &mut [u32], table: &mut [u32], h: History, step: u32) -> History {
     let a = change(ws, table, h, LARGE_KEYS as u32, more(step));
     let b = check_size(ws, table, a);
-    listed(ws, table, b, step)
+    expect(b, lists(ws, b.cur, table))
 }
 
 // The steps of the large history.

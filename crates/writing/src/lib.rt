@@ -7,14 +7,13 @@ use arena::slot_root;
 use arena::slot_size;
 use arena::slots_of;
 use heights::conservative_height;
-use insertion::Put;
 use lookup::Found;
 use reading::Entered;
 use reading::NOT_HELD;
 use reading::Refusal;
 use reading::enter;
 ghost use mathlib.Core.Path.{_≡_};
-ghost use Prim.Native.Nat.{ℕ, _+_, _≤_, _<_};
+ghost use Prim.Native.Nat.{_+_, _<_};
 ghost use Rattle.heights.specs.Choice.{if_then_else_};
 ghost use Rattle.heights.specs.Height.{insertReserve, removeReserve};
 ghost use Rattle.trees.specs.Edit.{setting, cutting};
@@ -63,6 +62,7 @@ pub enum Opened {
     Refused(Refusal),
 }
 
+// "A call that hands out a slot gives the lowest one not held."
 fn lowest_slot(ws: &[u32]) -> FreeSlot
     requires { ⌜ Sound (now ws) ⌝ }
     ensures { λ r. ⌜ LowestIs (now (ws .entry)) r ⌝ }
@@ -137,6 +137,7 @@ pub fn hold(ws: &mut [u32], s: u32) -> SlotAnswer
     }
 }
 
+// Slot s is given up, and its root is released.
 pub fn release(ws: &mut [u32], s: u32) -> DoneAnswer
     requires { ⌜ Sound (now ws) ⌝ }
     ensures { λ r. ⌜ Outcome (Call.release s) (now (ws .entry)) (doneAnswer r) (now (ws .exit)) ⌝ }
@@ -211,7 +212,7 @@ fn remove_from(ws: &mut [u32], p: Parent, key: u32)
     commit_to(ws, &plan, link, p.out, p.size - 1);
 }
 
-// The free number is that of the arena.
+// A slot for the parent with the entry set. The arena's free number comes with the call, as the test gave it.
 pub fn insert(ws: &mut [u32], s: u32, e: Entry, free: u32) -> SlotAnswer
     requires { ⌜ Sound (now ws) ⌝ }
     requires { ⌜ FreeIs (now ws) free ⌝ }
@@ -229,6 +230,7 @@ pub fn insert(ws: &mut [u32], s: u32, e: Entry, free: u32) -> SlotAnswer
     }
 }
 
+// A slot for the parent without the key: of an absent key the parent itself, which needs no free node.
 pub fn remove(ws: &mut [u32], s: u32, key: u32, free: u32) -> SlotAnswer
     requires { ⌜ Sound (now ws) ⌝ }
     requires { ⌜ FreeIs (now ws) free ⌝ }
