@@ -7,7 +7,7 @@ use Rattle.trees.specs.Tree as trees
 use Rattle.words.specs.Layout.{head, entry, left, right, color, count, code, nodeWords, slotWords, headerWords}
 use Rattle.words.specs.Reads.{Reads}
 use Rattle.words.specs.Owned.{Owned}
-use Rattle.words.specs.Model.{making}
+use Rattle.words.specs.Model.{making, releasing, freed}
 use Rattle.arena.specs.declared.Entry.{Entry}
 use Rattle.arena.specs.declared.Node.{Node}
 
@@ -52,6 +52,11 @@ Written ws ws' d = (c : trees.Color) → d .color ≡ code c → ws' ≡ making 
 pub record Made (r : ℕ) (ws ws' : List ℕ) (d : Node) : Type 0 where
   pub first : r ≡ head ws
   pub written : Written ws ws' d
+
+-- The link i has been released, and r nodes were freed.
+pub record Releases (h : ℕ) (ws ws' : List ℕ) (i r : ℕ) : Type 0 where
+  pub words-are : ws' ≡ releasing h ws i
+  pub freed-is : r ≡ freed h ws i
 
 -- Any tree with any stored size: what safety needs of the slots.
 abbrev pub Any : ℕ → trees.Tree → ℕ → Type 0

@@ -1,10 +1,24 @@
 // The arena's words: nodes, their counts and the free list, and the slots. Module 2 of document 01's port order.
 ghost use mathlib.Core.Path.{_≡_};
-ghost use Prim.Native.Nat.{ℕ, _+_, _-_, _*_, _≤_, _<_};
+ghost use Prim.Native.Nat.{_+_, _-_, _*_, _≤_, _<_};
 ghost use lib.ListN.{length};
 ghost use Rattle.words.specs.Layout.{nodes, slots, head, left, right, count, slotRoot, slotSize};
-ghost use Rattle.words.specs.Model.{withCount, raising, freeing, releasing, slotting};
-ghost use Rattle.arena.specs.Nodes.{NodeInside, SlotInside, IsNode, Raisable, Writable, Written, Makable, Made, Holds};
+ghost use Rattle.words.specs.Model.{withCount, raising, freeing, slotting};
+ghost use Rattle.arena.specs.Nodes.{NodeInside, SlotInside, IsNode, Raisable, Writable, Written, Makable, Made, Holds, Releases};
+
+// The limits of document 01, and the height that no version within them exceeds: H(2,047), and H(2,048) too.
+pub const MAX_NODES: u32 = 2047;
+
+pub const MAX_SLOTS: u32 = 32;
+
+pub const MAX_HEIGHT: u32 = 22;
+
+pub const RED: u32 = 0;
+
+pub const BLACK: u32 = 1;
+
+// The root word of a slot that is not held.
+pub const NOT_HELD: u32 = 4294967295;
 
 // The layout of docs/LAYOUT.md: each number has one name here and one in the definitions of `words`.
 pub const HEADER_WORDS: usize = 8;
@@ -167,24 +181,26 @@ pub fn make_node(ws: &mut [u32], d: Node) -> u32
     i
 }
 
-// One name less for the link i, at which stands a tree of height h at most. At its last name a node is freed, and its links are released.
-pub fn release(ws: &mut [u32], i: u32, h: u32)
+// One name less for the link i, at which stands a tree of height h at most. At its last name a node is freed, and its links are released. Answers how many
+// nodes were freed.
+pub fn release(ws: &mut [u32], i: u32, h: u32) -> u32
     requires { ⌜ Holds (now ws) i h ⌝ }
-    ensures { λ _. ⌜ now (ws .exit) ≡ releasing h (now (ws .entry)) i ⌝ }
+    ensures { λ r. ⌜ Releases h (now (ws .entry)) (now (ws .exit)) i r ⌝ }
 {
     if i == 0 {
-        return;
+        return 0;
     }
     let c = count_of(ws, i);
     if 1 < c {
         set_count(ws, i, c - 1);
-        return;
+        return 0;
     }
     let l = left_of(ws, i);
     let r = right_of(ws, i);
     push_free(ws, i);
-    release(ws, l, h - 1);
-    release(ws, r, h - 1);
+    let a = release(ws, l, h - 1);
+    let b = release(ws, r, h - 1);
+    a + b + 1
 }
 
 // The root of slot s, in an arena of n nodes.

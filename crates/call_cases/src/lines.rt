@@ -9,8 +9,8 @@ use reading::SignAnswer;
 use reading::TruthAnswer;
 use reading::ValueAnswer;
 use reading::Walk;
-use writing::DoneAnswer;
-use writing::SlotAnswer;
+use versions::DoneAnswer;
+use versions::SlotAnswer;
 
 // The most words that a case lends.
 const WORDS: usize = 12360;

@@ -8,7 +8,7 @@ use Rattle.trees.specs.Tree.{Tree}
 use Rattle.words.specs.Layout.{nodes, slots, slotRoot, notHeld, maxHeight, nodeWords, slotWords, rootWord}
 use Rattle.words.specs.Sound.{Sound}
 use Rattle.words.specs.Owned.{Sized}
-use Rattle.words.specs.Model.{releasing, unslotting}
+use Rattle.words.specs.Model.{releasing, freed, unslotting}
 use Rattle.words.proofs.Changes.{outside-root, outside-size}
 use Rattle.words.proofs.Slotting.{InSlot, slotting-in, slotting-root, slotting-size, slot-count, slot-agree, slot-reads, take-owned}
 use Rattle.words.proofs.Releasing as releasing
@@ -40,7 +40,7 @@ module _ {ws : List ℕ} {s : ℕ} {t : Tree} (S : Sound ws) (x : VersionIs ws s
   inside : nodeWords * n + slotWords * s + rootWord + slotWords ≤ length ws
   inside = omega (arith, x .held .inside, S .trees .limits .long-is)
 
-  gone : releasing.Released Sized n (slots ws) [] given-up left
+  gone : releasing.Released Sized n (slots ws) [] (freed maxHeight given-up root) given-up left
   gone =
       releasing.releasing-released
       Sized

@@ -3,13 +3,13 @@ use arena::HEAD_WORD;
 use arena::HEADER_WORDS;
 use arena::NODE_WORDS;
 use arena::NODES_WORD;
+use arena::NOT_HELD;
 use arena::SLOT_WORDS;
 use arena::SLOTS_WORD;
 use arena::push_free;
 use arena::put_slot;
-use reading::NOT_HELD;
 use reading::Refusal;
-use writing::DoneAnswer;
+use versions::DoneAnswer;
 ghost use mathlib.Core.Path.{_≡_};
 ghost use Prim.Native.Nat.{_≤_};
 ghost use lib.ListN.{length};
@@ -19,7 +19,7 @@ ghost use Rattle.soundness_laws.specs.Answer.{Decides};
 ghost use Rattle.arena.specs.Nodes.{NodeInside};
 ghost use Rattle.calls.specs.Call.{Call};
 ghost use Rattle.calls.specs.Outcome.{Outcome};
-ghost use Rattle.writing.specs.Slots.{doneAnswer};
+ghost use Rattle.versions.specs.Slots.{doneAnswer};
 ghost use Rattle.formatting.specs.Steps.{Headed, FreeAbove, EmptyBelow};
 
 // "N is 1 to 2,047, V is 1 to 32."

@@ -18,8 +18,8 @@ use red_black_tree_map::remove;
 use red_black_tree_map::size;
 use red_black_tree_map::sound;
 use red_black_tree_map::step_front;
-use writing::DoneAnswer;
-use writing::SlotAnswer;
+use versions::DoneAnswer;
+use versions::SlotAnswer;
 
 // Nodes, slots, words and keys of the small history, and after how many steps it starts over with an empty version.
 const SMALL_NODES: u32 = 64;

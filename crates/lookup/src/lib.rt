@@ -1,19 +1,14 @@
 // Module 3 of document 01's port order, and the descents of its module 8: lookups over node numbers, the remaining height falling.
 use arena::Entry;
-use arena::Node;
+use arena::MAX_HEIGHT;
 use arena::node_at;
 ghost use mathlib.Core.Path.{_≡_};
-ghost use mathlib.Core.Option.{Option, none, some};
-ghost use Prim.Native.Nat.{ℕ, _≤_};
 ghost use Rattle.words.specs.Layout.{maxHeight};
 ghost use Rattle.trees.specs.Listing.{orElse};
 ghost use Rattle.trees.specs.Range.{fromStart, toEnd, past, afterFront, beforeBack, front as atFront, back as atBack};
-ghost use Rattle.trees.specs.Lookup.{get as getOf, first as firstIn, last as lastIn, least as leastOf, greatest as greatestOf, within as withinOf, step as stepOf};
+ghost use Rattle.trees.specs.Lookup.{get as getOf, first as firstIn, last as lastIn, least as leastOf, greatest as greatestOf, step as stepOf};
 ghost use Rattle.arena.specs.Nodes.{entryOf};
 ghost use Rattle.lookup.specs.Finding.{foundOf, boundOf, lastOf, rangeOf, Rooted, Finds};
-
-// No version is taller: H(2,047).
-const MAX_HEIGHT: u32 = 22;
 
 // The entry that was looked for, if there is one.
 pub enum Found {

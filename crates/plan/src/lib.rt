@@ -4,21 +4,17 @@ ghost use mathlib.Core.Path.{_≡_};
 ghost use mathlib.Core.Bool.{_&&_};
 ghost use Prim.Native.Nat.{_+_, _<_};
 ghost use lib.Dec.{eqb};
-ghost use lib.ListN.{length};
 ghost use Rattle.trees.specs.Tree.{copy as copyOf};
 ghost use Rattle.plan.specs.Scratch.{used, PlanInside, IsPlanned, pushed};
 ghost use Rattle.plan.specs.Held.{Some, wordLimit, Room};
 ghost use Rattle.plan.specs.Steps.{Looks, Steps, itself, Turns, Paints};
 use arena::Entry;
 use arena::Node;
+use arena::RED;
 use arena::node_at;
 use arena::nodes_of;
 
-// A colour, as the arena has it; the third is read where there is no node.
-pub const RED: u32 = 0;
-
-pub const BLACK: u32 = 1;
-
+// The colour that is read where there is no node.
 pub const NO_COLOR: u32 = 2;
 
 // The layout of the scratch: each number has one name here and one in the definitions.

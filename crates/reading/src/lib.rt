@@ -1,5 +1,6 @@
 // The calls that only read, on a sound arena: document 01's table. `red_black_tree_map` tests the arena first.
 use arena::Entry;
+use arena::NOT_HELD;
 use arena::nodes_of;
 use arena::slot_root;
 use arena::slot_size;
@@ -16,9 +17,6 @@ ghost use Rattle.calls.specs.Call.{Call};
 ghost use Rattle.calls.specs.Outcome.{Outcome};
 ghost use Rattle.reading.specs.Answers.{refusalNumber, walkOf, numberAnswer, valueAnswer, entryAnswer, truthAnswer, stepped};
 ghost use Rattle.reading.specs.Entering.{Enters};
-
-// Not held: the root word of such a slot.
-pub const NOT_HELD: u32 = 4294967295;
 
 // (0028,1053) Rescale Slope.
 const RESCALE_SLOPE: u32 = 2625619;

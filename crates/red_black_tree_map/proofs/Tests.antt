@@ -16,7 +16,7 @@ use Rattle.calls.proofs.ReadingOutcomes.{free-nodes-outcome, sound-outcome, not
 use Rattle.soundness.specs.declared.Tested.{Tested}
 use Rattle.soundness.specs.declared.Tested.the-variants.{Sound, Unsound}
 use Rattle.soundness.specs.Verdict.{Verdict}
-use Rattle.writing.specs.Slots.{FreeIs}
+use Rattle.versions.specs.Free.{FreeIs}
 
 abbrev pub firstTest : List Refusal → Option Refusal
 firstTest [] = none

@@ -9,14 +9,14 @@ use reading::ValueAnswer;
 use reading::Walk;
 use soundness::Tested;
 use soundness::test;
-use writing::DoneAnswer;
-use writing::SlotAnswer;
+use versions::DoneAnswer;
+use versions::SlotAnswer;
 ghost use Rattle.trees.specs.Range.{front as atFront, back as atBack};
 ghost use Rattle.arena.specs.Nodes.{entryOf};
 ghost use Rattle.calls.specs.Call.{Call, Answer};
 ghost use Rattle.calls.specs.Outcome.{Outcome};
 ghost use Rattle.reading.specs.Answers.{walkOf, numberAnswer, valueAnswer, entryAnswer, truthAnswer, signAnswer};
-ghost use Rattle.writing.specs.Slots.{slotAnswer, doneAnswer};
+ghost use Rattle.versions.specs.Slots.{slotAnswer, doneAnswer};
 
 // Records N and V, makes all nodes free and no slot held. Any old contents will do.
 pub fn format(ws: &mut [u32], n: u32, v: u32) -> DoneAnswer
@@ -29,30 +29,33 @@ pub fn format(ws: &mut [u32], n: u32, v: u32) -> DoneAnswer
 pub fn new_version(ws: &mut [u32]) -> SlotAnswer
     ensures { λ r. ⌜ Outcome Call.new (now (ws .entry)) (slotAnswer r) (now (ws .exit)) ⌝ }
 {
-    let Tested::Sound(_) = test(ws) else {
+    let Tested::Sound(free) = test(ws) else {
         return SlotAnswer::Refused(Refusal::Unsound);
     };
-    writing::new_version(ws)
+    let done = versions::new_version(ws, free);
+    done.answer
 }
 
 // A second slot for the version of slot s.
 pub fn hold(ws: &mut [u32], s: u32) -> SlotAnswer
     ensures { λ r. ⌜ Outcome (Call.hold s) (now (ws .entry)) (slotAnswer r) (now (ws .exit)) ⌝ }
 {
-    let Tested::Sound(_) = test(ws) else {
+    let Tested::Sound(free) = test(ws) else {
         return SlotAnswer::Refused(Refusal::Unsound);
     };
-    writing::hold(ws, s)
+    let done = versions::hold(ws, s, free);
+    done.answer
 }
 
 // Slot s is given up.
 pub fn release(ws: &mut [u32], s: u32) -> DoneAnswer
     ensures { λ r. ⌜ Outcome (Call.release s) (now (ws .entry)) (doneAnswer r) (now (ws .exit)) ⌝ }
 {
-    let Tested::Sound(_) = test(ws) else {
+    let Tested::Sound(free) = test(ws) else {
         return DoneAnswer::Refused(Refusal::Unsound);
     };
-    writing::release(ws, s)
+    let done = versions::release(ws, s, free);
+    done.answer
 }
 
 // The number of entries of slot s.
@@ -112,7 +115,8 @@ pub fn insert(ws: &mut [u32], s: u32, e: Entry) -> SlotAnswer
     let Tested::Sound(free) = test(ws) else {
         return SlotAnswer::Refused(Refusal::Unsound);
     };
-    writing::insert(ws, s, e, free)
+    let done = writing::insert(ws, s, e, free);
+    done.answer
 }
 
 // A slot for the version of slot s without the key.
@@ -122,7 +126,8 @@ pub fn remove(ws: &mut [u32], s: u32, key: u32) -> SlotAnswer
     let Tested::Sound(free) = test(ws) else {
         return SlotAnswer::Refused(Refusal::Unsound);
     };
-    writing::remove(ws, s, key, free)
+    let done = writing::remove(ws, s, key, free);
+    done.answer
 }
 
 // The order of the versions of slots s and t.

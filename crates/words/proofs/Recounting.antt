@@ -11,7 +11,7 @@ use Rattle.words.specs.Layout.{head, left, right, count, slotRoot, nodeW
 use Rattle.words.specs.Counting.{same, occ}
 use Rattle.words.specs.Owned.{idle, kids, names, Live, Version, Owned, idleAt, idles, Agree}
 use Rattle.words.specs.Model.{withCount, raising}
-use Rattle.words.proofs.Counts.{same-eq, same-ne, occ-first, occ-rest, occ-more, sum-same}
+use Rattle.words.proofs.Counts.{same-eq, same-ne, occ-first, occ-rest, occ-more, sum-same, sum-le}
 use Rattle.words.proofs.Holding.{agree-left, agree-right, frame-all}
 use Rattle.words.proofs.OwnedLaws.{when-pos, idle-pos, chain-kept}
 use Rattle.words.proofs.Changes.{Outside, outside-refl, outside-root, outside-size, outside-shaped, Only, only-outside, only-agree, only-count, names-change, count-only, count-words, count-head, count-here}
@@ -191,21 +191,30 @@ raising-owned Valid n v ws P zero o l = add-none Valid n v ws P o
 raising-owned Valid n v ws P (suc i) o (inl e) = absurd (omega arith)
 raising-owned Valid n v ws P (suc i) o (inr l) = up-owned Valid n v ws P (suc i) o l
 
--- Count up frees no node and takes none, and changes nothing but one count.
+-- There are no more free nodes than nodes.
+pub idles-few : (n : ℕ) (ws : List ℕ) → idles n ws ≤ n
+unfolding idles idleAt idle
+idles-few n ws = omega (arith, sum-le 1 (idleAt ws) 1 n (λ j. go (count ws j)))
+  where
+    go : (c : ℕ) → idle c ≤ 1
+    go zero = omega arith
+    go (suc c) = omega arith
+
+-- A live node that is counted anew and stays live: no node is freed and none taken.
+module _ (n i : ℕ) (ws : List ℕ) (low : 1 ≤ i) (high : i ≤ n) (long : nodeWords * n + headerWords ≤ length ws) (c : ℕ) (some : 1 ≤ c) (live : 1 ≤ count ws i) where
+  live-idle : (j : ℕ) → 1 ≤ j → j ≤ n → Dec (j ≡ i) → idle (count (withCount ws i c) j) ≡ idle (count ws j)
+  live-idle j p q (yes e) =
+      rw e (idle-pos (count (withCount ws i c) i) (omega (arith, count-here i ws low (omega arith) c)) ∙ sym (idle-pos (count ws i) live))
+  live-idle j p q (no f) = ap idle (only-count n i ws (withCount ws i c) (count-only i ws low (omega arith) c) low high j p f)
+
+  pub live-idles : idles n (withCount ws i c) ≡ idles n ws
+  unfolding idles idleAt
+  live-idles = sum-same (idleAt (withCount ws i c)) (idleAt ws) 1 n (λ j p q. live-idle j p (omega arith) (ℕ-discrete j i))
+
+-- Count up changes nothing but one count.
 module _ (n i : ℕ) (ws : List ℕ) (low : 1 ≤ i) (high : i ≤ n) (long : nodeWords * n + headerWords ≤ length ws) where
   abbrev raised : List ℕ
   raised = withCount ws i (count ws i + 1)
-
-  up-idle : 1 ≤ count ws i → (j : ℕ) → 1 ≤ j → j ≤ n → Dec (j ≡ i) → idle (count raised j) ≡ idle (count ws j)
-  up-idle l j p q (yes e) =
-      rw
-      e
-      (idle-pos (count raised i) (omega (arith, count-here i ws low (omega arith) (count ws i + 1))) ∙ sym (idle-pos (count ws i) l))
-  up-idle l j p q (no f) = ap idle (only-count n i ws raised (count-only i ws low (omega arith) (count ws i + 1)) low high j p f)
-
-  up-idles : 1 ≤ count ws i → idles n raised ≡ idles n ws
-  unfolding idles idleAt
-  up-idles l = sum-same (idleAt raised) (idleAt ws) 1 n (λ j p q. up-idle l j p (omega arith) (ℕ-discrete j i))
 
   up-outside : Outside n ws raised
   up-outside = only-outside n i ws raised (count-only i ws low (omega arith) (count ws i + 1)) low high
@@ -219,7 +228,7 @@ module _ (n : ℕ) (ws : List ℕ) (long : nodeWords * n + headerWords ≤ lengt
   unfolding raising
   raising-idles zero l = refl
   raising-idles (suc i) (inl e) = absurd (omega arith)
-  raising-idles (suc i) (inr l) = up-idles n (suc i) ws (l .0) (l .1) long (l .2)
+  raising-idles (suc i) (inr l) = live-idles n (suc i) ws (l .0) (l .1) long (count ws (suc i) + 1) (omega arith) (l .2)
 
   pub raising-outside : (i : ℕ) → i ≤ n → Outside n ws (raising ws i)
   unfolding raising

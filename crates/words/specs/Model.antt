@@ -41,6 +41,14 @@ releasing (suc h) ws (suc i) =
     if ltb 1 (count ws (suc i)) then withCount ws (suc i) (count ws (suc i) - 1)
     else releasing h (releasing h (freeing ws (suc i)) (left ws (suc i))) (right ws (suc i))
 
+-- How many nodes a release frees.
+unfoldable pub freed : ℕ → List ℕ → ℕ → ℕ
+freed zero ws i = 0
+freed (suc h) ws zero = 0
+freed (suc h) ws (suc i) =
+    if ltb 1 (count ws (suc i)) then 0
+    else freed h (freeing ws (suc i)) (left ws (suc i)) + freed h (releasing h (freeing ws (suc i)) (left ws (suc i))) (right ws (suc i)) + 1
+
 -- A root and a size go into slot s, of an arena of n nodes.
 unfoldable pub slotting : ℕ → List ℕ → ℕ → ℕ → ℕ → List ℕ
 slotting n ws s r z = storing ws (nodeWords * n + slotWords * s) rootWord (r ∷ (z ∷ []))

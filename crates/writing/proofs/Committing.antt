@@ -13,7 +13,7 @@ use Rattle.words.specs.Commit.{frontier, raisingAll, Built, building}
 use Rattle.words.proofs.Countups.{Shares, Raised, raising-all}
 use Rattle.words.proofs.Committing.{shares-kept, Commits, commits}
 use Rattle.words.proofs.SoundOwned.{sound-owned}
-use Rattle.words.proofs.FreeNumber.{sound-idles, free-reached}
+use Rattle.words.proofs.Recounting.{idles-few}
 use Rattle.arena.specs.Nodes.{SlotInside}
 use Rattle.arena.proofs.Raised.{owned-any}
 use Rattle.plan.specs.Held.{Holds}
@@ -28,9 +28,6 @@ frontier-length leaf = omega arith
 frontier-length (node (kept i) c l e r) = omega arith
 frontier-length (node fresh c l e r) = simp length-append (omega (arith, frontier-length l, frontier-length r))
 
-pub idles-few : (ws : List ℕ) (S : Sound ws) → idles (nodes ws) ws ≤ nodes ws
-idles-few ws S = omega (arith, sound-idles ws S, free-reached ws S)
-
 pub commit-header : {ws plan : List ℕ} {link q : ℕ} → Planned ws plan link q → headerWords ≤ length ws
 commit-header k = omega (arith, k .sound .trees .limits .long-is)
 
@@ -44,6 +41,17 @@ module _ {ws plan : List ℕ} {link q n : ℕ} (k : Planned ws plan link q) (e :
   shares : Shares (nodes ws) ws (k .tree)
   shares = holds-shares Sized (nodes ws) (slots ws) ws [] owned plan (k .room) (k .holds) (k .live)
 
+  pub commit-countable : commit.Countable n plan link 22
+  commit-countable =
+      rw
+      e
+      (record {
+        tree = k .tree;
+        plans = plans;
+        low = k .low;
+        few = omega (arith, k .fits, idles-few (nodes ws) ws, k .sound .trees .limits .n-high);
+      })
+
   pub commit-raisable : commit.Raisable ws n plan link 22
   commit-raisable =
       rw
@@ -56,7 +64,7 @@ module _ {ws plan : List ℕ} {link q n : ℕ} (k : Planned ws plan link q) (e :
         pending = [];
         owned = owned-any Sized (nodes ws) (slots ws) ws [] owned;
         live = k .live;
-        few = omega (arith, frontier-length (k .tree), k .fits, idles-few ws (k .sound), k .sound .trees .limits .n-high);
+        few = omega (arith, frontier-length (k .tree), k .fits, idles-few (nodes ws) ws, k .sound .trees .limits .n-high);
       })
 
   module _ {w : List ℕ} (R : commit.Raises ws w n plan link) where
@@ -97,16 +105,17 @@ module _ {ws plan : List ℕ} {link q n : ℕ} (k : Planned ws plan link q) (e :
       pub commit-inside : SlotInside n w' q
       commit-inside = rw words-is (omega (arith, done .owned .shaped .limits .long-is, k .below))
 
-      pub commit-puts : {w'' : List ℕ} {z : ℕ} → w'' ≡ slotting n w' q r z → Puts ws w'' plan link q z
-      commit-puts {w''} {z} f = record { puts = puts }
+      pub commit-puts : {w'' : List ℕ} {z m : ℕ} → commit.Counts n plan link m → w'' ≡ slotting n w' q r z → Puts ws w'' plan link q z m
+      commit-puts {w''} {z} {m} C f = record { puts = puts }
         where
-          here : PutInSlot ws w'' (k .tree) q z
+          here : PutInSlot ws w'' (k .tree) q z m
           here =
               record {
                 built = built;
                 commits = done;
+                takes = C .counts (k .tree) (rw e plans);
                 words-are = f ∙ rw (e, words-is, link-is);
               }
 
-          puts : (u : Tree) → Holds ws plan link u → PutInSlot ws w'' u q z
-          puts u h = subst (λ (t : Tree). PutInSlot ws w'' t q z) (unique (k .holds) h) here
+          puts : (u : Tree) → Holds ws plan link u → PutInSlot ws w'' u q z m
+          puts u h = subst (λ (t : Tree). PutInSlot ws w'' t q z m) (unique (k .holds) h) here

@@ -39,8 +39,9 @@ use Rattle.calls.specs.Refusal as calls
 use Rattle.calls.specs.Call as call
 use Rattle.calls.specs.Version.{VersionIs}
 use Rattle.calls.proofs.Versions.{version-of, version-fine, version-size, version-root}
-use Rattle.writing.specs.declared.Parent.{Parent}
-use Rattle.writing.specs.Slots.{Parents, HasFree}
+use Rattle.versions.specs.declared.Parent.{Parent}
+use Rattle.versions.specs.Slots.{Parents}
+use Rattle.versions.specs.Free.{HasFree}
 use Rattle.writing.specs.Planned.{Planned, PutInSlot, Puts, Edits, Present}
 
 module _ {ws : List ℕ} {p : Parent} (k : Parents ws p) where
@@ -180,10 +181,10 @@ module _ {ws plan plan' : List ℕ} {link : ℕ} {p : Parent} (e : Entry) (k : P
         go true h = rw h
         go false h = rw h
 
-    pub insert-edits : {w : List ℕ} → Puts ws w plan' link (p .out) z → Edits ws w p (setting e)
-    insert-edits {w} P =
+    pub insert-edits : {w : List ℕ} {m : ℕ} → Puts ws w plan' link (p .out) z m → Edits ws w p (setting e) m
+    insert-edits {w} {m} P =
         record {
-          edits = λ u r. subst (λ (m : ℕ). PutInSlot ws w (edit (setting e) u) (p .out) m) (size-after u r) (P .puts (edit (setting e) u) (insert-holds u r));
+          edits = λ u r. subst (λ (y : ℕ). PutInSlot ws w (edit (setting e) u) (p .out) y m) (size-after u r) (P .puts (edit (setting e) u) (insert-holds u r));
         }
 
 -- A removal of a key that is there.
@@ -216,11 +217,11 @@ module _ {ws plan plan' : List ℕ} {link : ℕ} {p : Parent} {key : ℕ} (k : P
         ap removeReserve (parent-size k),
       ))
 
-  pub remove-edits : {w : List ℕ} → Puts ws w plan' link (p .out) (p .size - 1) → Edits ws w p (cutting key)
-  remove-edits {w} P =
+  pub remove-edits : {w : List ℕ} {m : ℕ} → Puts ws w plan' link (p .out) (p .size - 1) m → Edits ws w p (cutting key) m
+  remove-edits {w} {m} P =
       record {
         edits = λ u r.
             let q : p .size - 1 ≡ size (edit (cutting key) (t k)) = omega (arith, one-less, parent-size k) in
-            let m : p .size - 1 ≡ size (edit (cutting key) u) = q ∙ ap (λ (y : Tree). size (edit (cutting key) y)) (sym (only k u r)) in
-            subst (λ (m : ℕ). PutInSlot ws w (edit (cutting key) u) (p .out) m) m (P .puts (edit (cutting key) u) (remove-holds u r));
+            let z : p .size - 1 ≡ size (edit (cutting key) u) = q ∙ ap (λ (y : Tree). size (edit (cutting key) y)) (sym (only k u r)) in
+            subst (λ (y : ℕ). PutInSlot ws w (edit (cutting key) u) (p .out) y m) z (P .puts (edit (cutting key) u) (remove-holds u r));
       }

@@ -1,5 +1,4 @@
-pub mod Opening
-pub mod Handing
 pub mod Committing
 pub mod Editing
 pub mod Outcomes
+pub mod Taking

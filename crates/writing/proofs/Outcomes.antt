@@ -26,11 +26,12 @@ use Rattle.calls.specs.Outcome.{Outcome}
 use Rattle.calls.proofs.WritingOutcomes.{insert-full, insert-outcome, remove-full, remove-outcome, remove-absent-outcome}
 use Rattle.reading.specs.declared.Refusal.{Refusal}
 use Rattle.reading.specs.Answers.{refusalOf}
-use Rattle.writing.specs.declared.Parent.{Parent}
-use Rattle.writing.specs.declared.Opened.{Opened}
-use Rattle.writing.specs.Slots.{Parents, Opens, FreeIs, HasFree}
+use Rattle.versions.specs.declared.Parent.{Parent}
+use Rattle.versions.specs.declared.Opened.{Opened}
+use Rattle.versions.specs.Slots.{Parents, Opens}
+use Rattle.versions.specs.Free.{FreeIs, HasFree}
 use Rattle.writing.specs.Planned.{Edits, Present}
-use Rattle.writing.proofs.Opening.{opened-refused, parent-of, parents}
+use Rattle.versions.proofs.Opening.{opened-refused, parent-of, parents}
 use Rattle.writing.proofs.Editing.{t, version, fine, reads, only, parent-size, parent-small}
 
 module _ {ws : List ℕ} {s : ℕ} {x : Opened} (S : Sound ws) (g : Opens ws s x) where
@@ -78,7 +79,7 @@ module _ {ws : List ℕ} {s : ℕ} {x : Opened} (S : Sound ws) (g : Opens ws s x
             e
             (omega (arith, F .is S, ap insertReserve (parent-size k)))
 
-        pub insert-told : {w : List ℕ} → r ≤ f → Edits ws w p (setting e) → Outcome (call.Call.insert s e) ws (call.Answer.slot (p .out)) w
+        pub insert-told : {w : List ℕ} {m : ℕ} → r ≤ f → Edits ws w p (setting e) m → Outcome (call.Call.insert s e) ws (call.Answer.slot (p .out)) w
         insert-told {w} l E =
             let P = E .edits (t k) (reads k) in
             rw
@@ -114,7 +115,7 @@ module _ {ws : List ℕ} {s : ℕ} {x : Opened} (S : Sound ws) (g : Opens ws s x
             there
             (omega (arith, F .is S, ap removeReserve (parent-size k)))
 
-        pub remove-told : {w : List ℕ} → r ≤ f → Edits ws w p (cutting key) → Outcome (call.Call.remove s key) ws (call.Answer.slot (p .out)) w
+        pub remove-told : {w : List ℕ} {m : ℕ} → r ≤ f → Edits ws w p (cutting key) m → Outcome (call.Call.remove s key) ws (call.Answer.slot (p .out)) w
         remove-told {w} l E =
             let P = E .edits (t k) (reads k) in
             rw

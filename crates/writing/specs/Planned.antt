@@ -15,7 +15,7 @@ use Rattle.words.specs.Model.{slotting}
 use Rattle.words.specs.Commit.{Built}
 use Rattle.words.proofs.Committing.{Commits}
 use Rattle.plan.specs.Held.{Holds, Room}
-use Rattle.writing.specs.declared.Parent.{Parent}
+use Rattle.versions.specs.declared.Parent.{Parent}
 
 -- The link plans a tree whose kept nodes are live, and for whose fresh nodes there is room.
 pub record Planned (ws plan : List ℕ) (link q : ℕ) : Type 0 where
@@ -28,18 +28,19 @@ pub record Planned (ws plan : List ℕ) (link q : ℕ) : Type 0 where
   pub fits : made tree ≤ idles (nodes ws) ws
   pub below : q < slots ws
 
--- The tree u is committed, and then put into slot q with the size z.
-pub record PutInSlot (ws ws' : List ℕ) (u : Tree) (q z : ℕ) : Type 0 where
+-- The tree u is committed, which takes r nodes, and then put into slot q with the size z.
+pub record PutInSlot (ws ws' : List ℕ) (u : Tree) (q z r : ℕ) : Type 0 where
   pub built : Built
   pub commits : Commits Sized (nodes ws) (slots ws) [] ws u built
+  pub takes : r ≡ made u
   pub words-are : ws' ≡ slotting (nodes ws) (built .words) q (built .link) z
 
-pub record Puts (ws ws' plan : List ℕ) (link q z : ℕ) : Type 0 where
-  pub puts : (u : Tree) → Holds ws plan link u → PutInSlot ws ws' u q z
+pub record Puts (ws ws' plan : List ℕ) (link q z r : ℕ) : Type 0 where
+  pub puts : (u : Tree) → Holds ws plan link u → PutInSlot ws ws' u q z r
 
--- The edited parent is in the slot handed out.
-pub record Edits (ws ws' : List ℕ) (p : Parent) (d : Edit) : Type 0 where
-  pub edits : (t : Tree) → Reads (nodes ws) ws (p .root) t → PutInSlot ws ws' (edit d t) (p .out) (size (edit d t))
+-- The edited parent is in the slot handed out, and r nodes were taken.
+pub record Edits (ws ws' : List ℕ) (p : Parent) (d : Edit) (r : ℕ) : Type 0 where
+  pub edits : (t : Tree) → Reads (nodes ws) ws (p .root) t → PutInSlot ws ws' (edit d t) (p .out) (size (edit d t)) r
 
 -- The parent has the key.
 pub record Present (ws : List ℕ) (p : Parent) (key : ℕ) : Type 0 where

@@ -1,6 +1,6 @@
 use borrow.Author.Needs.{needs}
 use native.Mathlib.Omega.{arith}
-use Rattle.arena.proofs.Released.{lower, holds-inside, holds-high, holds-left, holds-right, released-none, released-more, released-last}
+use Rattle.arena.proofs.Released.{lower, holds-inside, holds-high, holds-left, holds-right, released-none, released-more, released-last, links-fit, sum-fits}
 use Prim.Native.Nat.{ℕ, _<_}
 use borrow.Fn.Kinds.{In}
 use borrow.Fn.PlainCycle.{Measures, is, falls, and}
@@ -53,6 +53,8 @@ pub +release-spec : {M : Type 1} → statement M
     (λ c. search holds-high)
     (λ c κs. (search lower, search holds-left))
     (λ c. search holds-high)
-    (λ c κs. (search lower, search holds-right))
+    (λ c κs. (search lower, holds-right (search needs) (search needs) (c .before .before .before .before .before .before .before .before .before .before .before .before .before .before .count-of .ensures) (search needs) (c .before .before .before .before .before .before .before .before .before .before .before .left-of .ensures) (c .before .before .before .before .before .before .before .before .before .right-of .ensures) (search needs) (c .before .before .before .release .ensures)))
+    (λ c. links-fit (search needs) (search needs) (c .before .before .before .before .before .before .before .before .before .before .before .before .before .before .before .before .before .count-of .ensures) (search needs) (c .before .before .before .before .before .before .before .before .before .before .before .before .before .before .left-of .ensures) (c .before .before .before .before .before .before .before .before .before .before .before .before .right-of .ensures) (search needs) (c .before .before .before .before .before .before .release .ensures) (c .before .before .release2 .ensures))
+    (λ c. sum-fits (search needs) (search needs) (c .before .before .before .before .before .before .before .before .before .before .before .before .before .before .before .before .before .count-of .ensures) (search needs) (c .before .before .before .before .before .before .before .before .before .before .before .before .before .before .left-of .ensures) (c .before .before .before .before .before .before .before .before .before .before .before .before .right-of .ensures) (search needs) (c .before .before .before .before .before .before .release .ensures) (c .before .before .release2 .ensures))
     (λ c. search needs)
-    (λ c. search released-last)
+    (λ c. released-last (search needs) (search needs) (c .before .before .before .before .before .before .before .before .before .before .before .before .before .before .before .before .before .count-of .ensures) (search needs) (c .before .before .before .before .before .before .before .before .before .before .before .before .before .before .left-of .ensures) (c .before .before .before .before .before .before .before .before .before .before .before .before .right-of .ensures) (search needs) (c .before .before .before .before .before .before .release .ensures) (c .before .before .release2 .ensures))

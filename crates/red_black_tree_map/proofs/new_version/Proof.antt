@@ -1,5 +1,5 @@
 use borrow.Author.Needs.{needs}
-use Rattle.red_black_tree_map.proofs.Tests.{tested-sound, unsound-refused}
+use Rattle.red_black_tree_map.proofs.Tests.{tested-sound, tested-free, unsound-refused}
 use Rattle.red_black_tree_map.proofs.new_version.Statement.{statement}
 use Rattle.red_black_tree_map.proofs.new_version.Tie as tie
 
@@ -12,6 +12,6 @@ new-version-spec =
     (λ c. search needs)
     (λ c. search needs)
     (λ c. search unsound-refused)
-    (λ c κs. search tested-sound)
+    (λ c κs. (search tested-sound, search tested-free))
     (λ c. search needs)
     (λ c. search needs))

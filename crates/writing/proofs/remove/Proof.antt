@@ -1,6 +1,7 @@
 use borrow.Author.Needs.{needs}
-use Rattle.writing.proofs.Opening.{parents}
+use Rattle.versions.proofs.Opening.{parents}
 use Rattle.writing.proofs.Outcomes.{opened-rooted, opened-small, found-present, remove-absent, remove-no-room, remove-has, remove-refused, remove-told}
+use Rattle.writing.proofs.Taking.{edit-few, edit-free, absent-free}
 use Rattle.writing.proofs.remove.Statement.{statement}
 use Rattle.writing.proofs.remove.Tie as tie
 
@@ -19,12 +20,13 @@ remove-spec =
     (λ c. search needs)
     (λ c κs. search parents)
     (λ c. search needs)
-    (λ c. search remove-absent)
+    (λ c. (search remove-absent, search absent-free))
     (λ c κs. search opened-small)
     (λ c. search needs)
-    (λ c. search remove-no-room)
+    (λ c. (search remove-no-room, search needs))
     remove-from-requires
+    (λ c. search edit-few)
     (λ c. search needs)
-    (λ c. search remove-refused)
+    (λ c. (search remove-refused, search needs))
     (λ c. search needs)
-    (λ c. search remove-told))
+    (λ c. (search remove-told, search edit-free)))

@@ -1,8 +1,8 @@
 use borrow.Author.Needs.{needs}
 use Rattle.reading.proofs.Entries.{header-inside}
-use Rattle.writing.proofs.Handing.{share-raisable, share-inside, share-is}
-use Rattle.writing.proofs.share.Statement.{statement}
-use Rattle.writing.proofs.share.Tie as tie
+use Rattle.versions.proofs.Handing.{share-raisable, share-inside, share-is}
+use Rattle.versions.proofs.share.Statement.{statement}
+use Rattle.versions.proofs.share.Tie as tie
 
 pub share-spec : {M : Type 1} → statement M
 share-spec =

@@ -1,8 +1,8 @@
 use borrow.Author.Needs.{needs}
 use Rattle.reading.proofs.Entries.{header-inside, held-inside}
-use Rattle.writing.proofs.Opening.{open-full, open-refused, open-at}
-use Rattle.writing.proofs.open.Statement.{statement}
-use Rattle.writing.proofs.open.Tie as tie
+use Rattle.versions.proofs.Opening.{open-full, open-refused, open-at}
+use Rattle.versions.proofs.open.Statement.{statement}
+use Rattle.versions.proofs.open.Tie as tie
 
 pub open-spec : {M : Type 1} → statement M
 open-spec =

@@ -2,9 +2,9 @@ use borrow.Author.Needs.{needs}
 use native.Mathlib.Omega.{arith}
 use Prim.Native.Nat.{ℕ, _-_}
 use Rattle.reading.proofs.Entries.{header-inside}
-use Rattle.writing.proofs.Opening.{Scanned, scan-start, scan-inside, scan-found, scan-more, scan-full}
-use Rattle.writing.proofs.lowest_slot.Statement.{statement}
-use Rattle.writing.proofs.lowest_slot.Tie as tie
+use Rattle.versions.proofs.Opening.{Scanned, scan-start, scan-inside, scan-found, scan-more, scan-full}
+use Rattle.versions.proofs.lowest_slot.Statement.{statement}
+use Rattle.versions.proofs.lowest_slot.Tie as tie
 
 abbrev Inv-loop : tie.InvT-loop
 Inv-loop ws n v q₀ q = Scanned ws n v q

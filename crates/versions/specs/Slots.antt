@@ -1,21 +1,21 @@
 -- What the writing calls test first, and the page's answers from theirs.
 use mathlib.Core.Path.{_≡_}
 use mathlib.Core.List.{List}
-use Prim.Native.Nat.{ℕ, _≤_, _<_}
+use Prim.Native.Nat.{ℕ, _<_}
 use Rattle.words.specs.Layout.{nodes, slots, slotRoot, slotSize}
 use Rattle.words.specs.Reads.{Held}
-use Rattle.words.specs.Sound.{Sound, freeNumber}
+use Rattle.words.specs.Sound.{Sound}
 use Rattle.calls.specs.Call.{Answer}
 use Rattle.calls.specs.Version.{Lowest}
 use Rattle.reading.specs.declared.Refusal.{Refusal}
 use Rattle.reading.specs.declared.Refusal.the-variants.{BadShape, Unsound, NoVersion, BadRange, Absent, NoSlot, NoRoom, End}
 use Rattle.reading.specs.Answers.{refusalOf}
-use Rattle.writing.specs.declared.FreeSlot.{FreeSlot}
-use Rattle.writing.specs.declared.FreeSlot.the-variants.{At, AllHeld}
-use Rattle.writing.specs.declared.Parent.{Parent}
-use Rattle.writing.specs.declared.Opened.{Opened}
-use Rattle.writing.specs.declared.SlotAnswer.{SlotAnswer}
-use Rattle.writing.specs.declared.DoneAnswer.{DoneAnswer}
+use Rattle.versions.specs.declared.FreeSlot.{FreeSlot}
+use Rattle.versions.specs.declared.FreeSlot.the-variants.{At, AllHeld}
+use Rattle.versions.specs.declared.Parent.{Parent}
+use Rattle.versions.specs.declared.Opened.{Opened}
+use Rattle.versions.specs.declared.SlotAnswer.{SlotAnswer}
+use Rattle.versions.specs.declared.DoneAnswer.{DoneAnswer}
 
 abbrev pub slotAnswer : SlotAnswer → Answer
 slotAnswer (SlotAnswer.Slot q) = Answer.slot q
@@ -67,10 +67,3 @@ Opening ws s (Opened.Refused r) = Refuses ws s r
 
 pub record Opens (ws : List ℕ) (s : ℕ) (r : Opened) : Type 0 where
   pub is : Opening ws s r
-
--- The free number of the arena is `free`; it is k at least.
-pub record FreeIs (ws : List ℕ) (free : ℕ) : Type 0 where
-  pub is : (S : Sound ws) → freeNumber S ≡ free
-
-pub record HasFree (ws : List ℕ) (k : ℕ) : Type 0 where
-  pub has : (S : Sound ws) → k ≤ freeNumber S

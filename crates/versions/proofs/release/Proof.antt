@@ -1,8 +1,8 @@
 use borrow.Author.Needs.{needs}
 use Rattle.reading.proofs.Entries.{header-inside, held-inside}
-use Rattle.writing.proofs.Handing.{release-holds, release-refused, release-told}
-use Rattle.writing.proofs.release.Statement.{statement}
-use Rattle.writing.proofs.release.Tie as tie
+use Rattle.versions.proofs.Handing.{release-holds, release-refused, release-told, release-fits, release-free}
+use Rattle.versions.proofs.release.Statement.{statement}
+use Rattle.versions.proofs.release.Tie as tie
 
 pub release-spec : {M : Type 1} → statement M
 release-spec =
@@ -14,7 +14,8 @@ release-spec =
     (λ c κs. search header-inside)
     (λ c κs. search held-inside)
     (λ c κs. search release-holds)
+    (λ c. search release-fits)
     (λ c. search needs)
-    (λ c. search release-refused)
+    (λ c. (search release-refused, search needs))
     (λ c. search needs)
-    (λ c. search release-told))
+    (λ c. (search release-told, search release-free)))

@@ -20,11 +20,11 @@ use Rattle.reading.specs.declared.Entered.{Entered}
 use Rattle.reading.specs.Answers.{refusalOf}
 use Rattle.reading.specs.Entering.{Entering, Enters}
 use Rattle.reading.proofs.Entries.{root-of, named-first}
-use Rattle.writing.specs.declared.FreeSlot.{FreeSlot}
-use Rattle.writing.specs.declared.FreeSlot.the-variants.{At, AllHeld}
-use Rattle.writing.specs.declared.Parent.{Parent}
-use Rattle.writing.specs.declared.Opened.{Opened}
-use Rattle.writing.specs.Slots.{LowestAt, LowestIs, ParentOf, Parents, Refuses, Opening, Opens}
+use Rattle.versions.specs.declared.FreeSlot.{FreeSlot}
+use Rattle.versions.specs.declared.FreeSlot.the-variants.{At, AllHeld}
+use Rattle.versions.specs.declared.Parent.{Parent}
+use Rattle.versions.specs.declared.Opened.{Opened}
+use Rattle.versions.specs.Slots.{LowestAt, LowestIs, ParentOf, Parents, Refuses, Opening, Opens}
 
 -- All slots below q are held.
 pub record Scanned (ws : List ℕ) (n v q : ℕ) : Type 0 where

@@ -1,8 +1,8 @@
 use borrow.Author.Needs.{needs}
 use Rattle.reading.proofs.Entries.{header-inside}
-use Rattle.writing.proofs.Handing.{new-refused, new-inside, new-told}
-use Rattle.writing.proofs.new_version.Statement.{statement}
-use Rattle.writing.proofs.new_version.Tie as tie
+use Rattle.versions.proofs.Handing.{new-refused, new-inside, new-told, new-free}
+use Rattle.versions.proofs.new_version.Statement.{statement}
+use Rattle.versions.proofs.new_version.Tie as tie
 
 pub new-version-spec : {M : Type 1} → statement M
 new-version-spec =
@@ -12,8 +12,8 @@ new-version-spec =
     (λ c. search needs)
     (λ c. search needs)
     (λ c. search needs)
-    (λ c. search new-refused)
+    (λ c. (search new-refused, search needs))
     (λ c κs. search header-inside)
     (λ c κs. search new-inside)
     (λ c. search needs)
-    (λ c. search new-told))
+    (λ c. (search new-told, search new-free)))

@@ -1,0 +1,3 @@
+pub mod Opening
+pub mod Handing
+pub mod FreeNumbers
