@@ -1,56 +1,25 @@
 // Document 01's format, on any words.
 use arena::HEAD_WORD;
-use arena::HEADER_WORDS;
-use arena::NODE_WORDS;
 use arena::NODES_WORD;
 use arena::NOT_HELD;
-use arena::SLOT_WORDS;
 use arena::SLOTS_WORD;
 use arena::push_free;
 use arena::put_slot;
+use limits::fits;
 use reading::Refusal;
 use versions::DoneAnswer;
 ghost use mathlib.Core.Path.{_≡_};
 ghost use Prim.Native.Nat.{_≤_};
 ghost use lib.ListN.{length};
 ghost use Rattle.words.specs.Layout.{head, headerWords, arenaWords};
-ghost use Rattle.words.specs.Sound.{Limits};
-ghost use Rattle.soundness_laws.specs.Answer.{Decides};
 ghost use Rattle.arena.specs.Nodes.{NodeInside};
 ghost use Rattle.calls.specs.Call.{Call};
 ghost use Rattle.calls.specs.Outcome.{Outcome};
 ghost use Rattle.versions.specs.Slots.{doneAnswer};
 ghost use Rattle.formatting.specs.Steps.{Headed, FreeAbove, EmptyBelow};
 
-// "N is 1 to 2,047, V is 1 to 32."
-const MAX_NODES: u32 = 2047;
-
-const MAX_SLOTS: u32 = 32;
-
 // The first spare word of the header; the header's last word is the last of them.
 const SPARE_WORD: usize = 3;
-
-// Whether n and v are within their limits and agree with the length.
-fn fits(long: usize, n: u32, v: u32) -> bool
-    ensures { λ r. ⌜ Decides r (Limits n v long) ⌝ }
-{
-    if n == 0 {
-        return false;
-    }
-    if MAX_NODES < n {
-        return false;
-    }
-    if v == 0 {
-        return false;
-    }
-    if MAX_SLOTS < v {
-        return false;
-    }
-    if long != HEADER_WORDS + SLOT_WORDS * (v as usize) + NODE_WORDS * (n as usize) {
-        return false;
-    }
-    true
-}
 
 // The header of an arena without a free node.
 fn write_header(ws: &mut [u32], n: u32, v: u32)

@@ -1,5 +1,6 @@
 // The public calls of document 01: any words, slots, keys and ranges may come in. Each call tests the arena and then does what the table says.
 use arena::Entry;
+use books::Tested;
 use reading::EntryAnswer;
 use reading::NumberAnswer;
 use reading::Refusal;
@@ -7,7 +8,6 @@ use reading::SignAnswer;
 use reading::TruthAnswer;
 use reading::ValueAnswer;
 use reading::Walk;
-use soundness::Tested;
 use soundness::test;
 use versions::DoneAnswer;
 use versions::SlotAnswer;

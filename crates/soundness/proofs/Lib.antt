@@ -1,2 +1,1 @@
-pub mod NodeWords
 pub mod Verdicts

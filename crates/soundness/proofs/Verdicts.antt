@@ -13,9 +13,10 @@ use Rattle.soundness_laws.specs.Memo.{summaryWords}
 use Rattle.soundness_laws.specs.Survey.{Within}
 use Rattle.soundness_laws.proofs.Saying.{say-yes, say-no}
 use Rattle.soundness_laws.proofs.Planting.{replicate-blank}
-use Rattle.soundness.specs.Verdict.{Verdict, BooksVerdict, Scratch}
-use Rattle.soundness.specs.declared.Tested.{Tested}
-use Rattle.soundness.specs.declared.Tested.the-variants.{Sound, Unsound}
+use Rattle.books.specs.Verdict.{BooksVerdict}
+use Rattle.soundness.specs.Verdict.{Verdict, Scratch}
+use Rattle.books.specs.declared.Tested.{Tested}
+use Rattle.books.specs.declared.Tested.the-variants.{Sound, Unsound}
 
 pub whole-verdict : (ws : List ℕ) (r : Tested) → Trees ws → BooksVerdict ws r → Verdict ws r
 whole-verdict ws (Sound f) T b = (record { trees = T; books = b .books T .0 }, b .books T .1)

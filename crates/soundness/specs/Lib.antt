@@ -1,2 +1,1 @@
-pub mod Briefs
 pub mod Verdict

@@ -8,19 +8,13 @@ use Rattle.words.specs.Sound.{freeNumber}
 use Rattle.words.specs.Sound as sound
 use Rattle.soundness_laws.specs.Memo.{Roomy, Blank}
 use Rattle.soundness_laws.specs.Survey.{Within}
-use Rattle.soundness_laws.specs.Tally.{Booked, Unbooked}
-use Rattle.soundness.specs.declared.Tested.{Tested}
-use Rattle.soundness.specs.declared.Tested.the-variants.{Sound, Unsound}
+use Rattle.books.specs.declared.Tested.{Tested}
+use Rattle.books.specs.declared.Tested.the-variants.{Sound, Unsound}
 
 -- Sound, with the free number; or not sound.
 abbrev pub Verdict : List ℕ → Tested → Type 0
 Verdict ws (Sound f) = (S : sound.Sound ws) × (freeNumber S ≡ f)
 Verdict ws Unsound = sound.Sound ws → ⊥
-
--- The same of the second half.
-abbrev pub BooksVerdict : List ℕ → Tested → Type 0
-BooksVerdict ws (Sound f) = Booked ws f
-BooksVerdict ws Unsound = Unbooked ws
 
 -- An arena within its limits, and scratch for it: all 0, with room for each link.
 pub record Scratch (ws memo names : List ℕ) : Type 0 where

@@ -1,25 +1,13 @@
 // The soundness test of document 01: yes exactly when the arena is sound, and then how many nodes are free. It writes nothing.
-pub mod books;
-mod layout;
-pub mod limits;
-mod memo;
-mod summary;
-pub mod survey;
-
 ghost use Rattle.words.specs.Sound.{Sound};
 ghost use Rattle.soundness_laws.specs.Answer.{Decides};
 ghost use Rattle.soundness.specs.Verdict.{Verdict, Scratch};
-use self::books::books;
-use self::layout::MAX_NODES;
-use self::limits::within_limits;
-use self::memo::SUMMARY_WORDS;
-use self::survey::survey;
-
-// Sound, with the number of free nodes; or not.
-pub enum Tested {
-    Sound(u32),
-    Unsound,
-}
+use arena::MAX_NODES;
+use books::Tested;
+use books::books;
+use limits::within_limits;
+use summaries::memo::SUMMARY_WORDS;
+use survey::survey;
 
 const LINKS: usize = MAX_NODES as usize + 1;
 

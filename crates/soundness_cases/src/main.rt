@@ -1,6 +1,6 @@
 // Runs the soundness test on arenas built by hand, each bullet of document 01 broken one at a time, and writes each verdict on a line.
 // The expected lines are read off document 01, beside each case below.
-use soundness::Tested;
+use books::Tested;
 use soundness::test;
 ghost use Prim.Native.Nat.{_<_, _≤_};
 ghost use lib.ListN.{length};

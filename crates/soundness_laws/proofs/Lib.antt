@@ -1,4 +1,5 @@
 pub mod Saying
+pub mod Slots
 pub mod Keys
 pub mod Fitting
 pub mod Joining

@@ -17,6 +17,7 @@ use Rattle.soundness_laws.specs.Memo.{briefAt, Seen, Blank}
 use Rattle.soundness_laws.specs.Survey.{Within, Survey, Slot}
 use Rattle.soundness_laws.specs.Tally.{seenKids, rootAt, bumping, tally, Tallied, Nameable, Bumpable, Naming, Named}
 use Rattle.soundness_laws.proofs.Saying.{heard-yes, heard-no}
+use Rattle.soundness_laws.proofs.Slots.{root-read}
 use Rattle.soundness_laws.proofs.Sums.{sum-more}
 
 bumped : (names : List ℕ) (l x : ℕ) → l < length names → getD (bumping names l) x 0 ≡ getD names x 0 + same l x
@@ -89,11 +90,14 @@ module _ (ws memo : List ℕ) (i : ℕ) (names : List ℕ) (q : Naming ws memo i
         })
 
 -- The root x of slot s and the number n of nodes, as they were read; a root above the nodes names none.
-module _ (ws : List ℕ) (s : ℕ) (names : List ℕ) (x n : ℕ) (ex : x ≡ slotRoot (nodes ws) ws s) (en : n ≡ nodes ws) where
+module _ (ws : List ℕ) (s : ℕ) (names : List ℕ) (x n : ℕ) (er : x ≡ slotRoot n ws s) (en : n ≡ nodes ws) where
+  ex : x ≡ slotRoot (nodes ws) ws s
+  ex = root-read ws s x n en er
+
   pub name-far : n < x → Named ws (rootAt ws s) names names
   unfolding rootAt held
   name-far h =
-      record { long = refl; more = λ y p. omega (arith, same-ne (slotRoot (nodes ws) ws s) y (λ e. omega arith)) }
+      record { long = refl; more = λ y p. omega (arith, same-ne (slotRoot (nodes ws) ws s) y (λ e. omega (arith, ex))) }
 
   module _ (m : Nameable ws names) (h : x ≤ n) where
     pub name-root : Bumpable names x

@@ -18,6 +18,7 @@ use Rattle.soundness_laws.specs.Summary.{Brief, firstKey, lastKey, shade
 use Rattle.soundness_laws.specs.Memo.{summaryWords, blacksPlace, briefAt, noting, Roomy, Seen, Blank}
 use Rattle.soundness_laws.specs.Survey.{Within, Holds, Noted, Survey, Visit, Visited, Planted, Try, Tried, Charted}
 use Rattle.soundness_laws.proofs.Saying.{say-yes, say-no, heard-yes, heard-no}
+use Rattle.soundness_laws.proofs.Slots.{root-read}
 use Rattle.soundness_laws.proofs.Joining.{shade-black, black-shade}
 use Rattle.soundness_laws.proofs.Noting.{noting-length, noting-here, noting-other}
 use Rattle.soundness_laws.proofs.Settling.{grown-none}
@@ -79,8 +80,11 @@ pub trees-fine : (ws : List ℕ) (T : Trees ws) (s : ℕ) (h : Held ws s) → Fi
 trees-fine ws T s h =
     record { ordered = T .keys s h; root = T .roots s h; blacks = T .shapes s h .0; shape = T .shapes s h .1 }
 
--- x is the root of slot s, as it was read.
-module _ (ws memo : List ℕ) (s : ℕ) (t : Try ws memo s) (x : ℕ) (ex : x ≡ slotRoot (nodes ws) ws s) where
+-- n is the number of nodes and x the root of slot s, as they were read.
+module _ (ws memo : List ℕ) (s : ℕ) (t : Try ws memo s) (n : ℕ) (en : n ≡ nodes ws) (x : ℕ) (er : x ≡ slotRoot n ws s) where
+  ex : x ≡ slotRoot (nodes ws) ws s
+  ex = root-read ws s x n en er
+
   q : Survey ws memo
   q = t .survey
 

@@ -11,14 +11,16 @@ use Rattle.soundness_laws.specs.Answer.{Decides}
 use Rattle.soundness_laws.specs.Survey.{Charted}
 use Rattle.soundness_laws.specs.Tally.{Entries, Rooted, SizeIs, Sizes}
 use Rattle.soundness_laws.proofs.Saying.{say-yes, say-no, heard-yes, heard-no}
+use Rattle.soundness_laws.proofs.Slots.{root-read, size-read}
 
--- The root x of a slot that was charted has its place.
-pub size-room : (ws memo : List ℕ) (s : ℕ) → Charted ws memo → s < slots ws → (x : ℕ) → x ≡ slotRoot (nodes ws) ws s → Rooted memo x
-size-room ws memo s c l x e =
+-- The root x of a slot that was charted has its place; n is the number of nodes, as it was read.
+pub size-room : (ws memo : List ℕ) (s : ℕ) → Charted ws memo → s < slots ws → (n : ℕ) → n ≡ nodes ws → (x : ℕ) → x ≡ slotRoot n ws s → Rooted memo x
+size-room ws memo s c l n en x e =
     record {
       room = λ f.
-          let p = c .planted s (record { inside = l; held = λ z. f (e ∙ z) }) .noted in
-          omega (arith, p .high, c .survey .room);
+          let r = root-read ws s x n en e in
+          let p = c .planted s (record { inside = l; held = λ z. f (r ∙ z) }) .noted in
+          omega (arith, r, p .high, c .survey .room);
     }
 
 entries-same : (memo : List ℕ) (root x y : ℕ) → Entries memo root x → Entries memo root y → x ≡ y
@@ -28,10 +30,13 @@ entries-same memo root x y a b = go (ℕ-discrete root notHeld)
     go (yes e) = a .none e ∙ sym (b .none e)
     go (no f) = a .some f ∙ sym (b .some f)
 
--- z and x are the size and the root of slot s, as they were read, and y is the number of entries at x.
-module _ (ws memo : List ℕ) (s z x y : ℕ) (ez : z ≡ slotSize (nodes ws) ws s) (ex : x ≡ slotRoot (nodes ws) ws s) (n : Entries memo x y) where
+-- z and x are the size and the root of slot s, as they were read after the number n of nodes, and y is the number of entries at x.
+module _ (ws memo : List ℕ) (s n z x y : ℕ) (en : n ≡ nodes ws) (es : z ≡ slotSize n ws s) (er : x ≡ slotRoot n ws s) (a : Entries memo x y) where
+  ez : z ≡ slotSize (nodes ws) ws s
+  ez = size-read ws s z n en es
+
   at-root : Entries memo (slotRoot (nodes ws) ws s) y
-  at-root = rw ex at n
+  at-root = rw (root-read ws s x n en er) at a
 
   pub size-same : z ≡ y → Decides true (SizeIs ws memo s)
   size-same e = say-yes (rw (← ez, e) at-root)

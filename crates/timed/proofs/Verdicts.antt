@@ -1,13 +1,13 @@
 -- The number that a verdict is written as says the verdict.
-use mathlib.Core.Path.{_≡_, refl, ap, subst}
+use mathlib.Core.Path.{_≡_, subst}
 use mathlib.Core.List.{List}
-use Prim.Native.Nat.{ℕ, _+_, _≤_}
+use Prim.Native.Nat.{ℕ, _+_}
 use native.Mathlib.Omega.{arith}
 use mir.Syntax.{w32}
 use mir.Val.{Fits}
 use Rattle.words.proofs.FreeNumber.{free-reached}
-use Rattle.soundness.specs.declared.Tested.{Tested}
-use Rattle.soundness.specs.declared.Tested.the-variants.{Sound, Unsound}
+use Rattle.books.specs.declared.Tested.{Tested}
+use Rattle.books.specs.declared.Tested.the-variants.{Sound, Unsound}
 use Rattle.soundness.specs.Verdict.{Verdict}
 use Rattle.timed.specs.Coded.{Coded}
 

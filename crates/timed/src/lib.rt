@@ -1,5 +1,5 @@
 // The soundness test for the benchmark, which is not in Rattle: one more than the free number of a sound arena, 0 of any other.
-use soundness::Tested;
+use books::Tested;
 use soundness::test;
 ghost use Rattle.timed.specs.Coded.{Coded};
 
