@@ -16,7 +16,10 @@ use Rattle.plan.specs.Steps.{Grown, Looks, Steps, itself, Turns}
 use Rattle.plan.proofs.Holdings.{is-leaf}
 use Rattle.plan.proofs.Growing.{room-less, room-after, no-growth, onward, grow-to}
 use Rattle.plan.proofs.Looking.{is-black, not-black, Topped, topped}
-use Rattle.removal.specs.Contracts.{sideRoom, fuseRoom, delRoom, balanceLeft, balanceRight, cutLeft, cutRight, Leans, Twin, Joins, RedBlack, Sides}
+use Rattle.turning.specs.Contracts.{sideRoom}
+use Rattle.rebalancing.specs.Contracts.{balanceLeft, balanceRight, Leans}
+use Rattle.fusing.specs.Contracts.{fuseRoom, Twin, Joins}
+use Rattle.removal.specs.Contracts.{delRoom, cutLeft, cutRight, RedBlack, Sides}
 
 -- The sides of a red-black tree have as many black levels as one another.
 record Halves (t : Tree) : Type 0 where

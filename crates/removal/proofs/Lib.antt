@@ -1,4 +1,2 @@
-pub mod Sibling
-pub mod Joining
 pub mod Deleting
 pub mod Present

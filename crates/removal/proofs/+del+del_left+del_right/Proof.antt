@@ -17,9 +17,9 @@ use Rattle.removal.proofs.del_right.Kinds as del-right-kinds
 use Rattle.removal.proofs.+del+del_left+del_right.Lts-del_right as del-right-lts
 use Rattle.plan.proofs.look.Reads as look-reads
 use Rattle.plan.proofs.push.Reads as push-reads
-use Rattle.removal.proofs.remove_balance_left.Reads as remove-balance-left-reads
-use Rattle.removal.proofs.remove_balance_right.Reads as remove-balance-right-reads
-use Rattle.removal.proofs.remove_fuse.Reads as remove-fuse-reads
+use Rattle.rebalancing.proofs.remove_balance_left.Reads as remove-balance-left-reads
+use Rattle.rebalancing.proofs.remove_balance_right.Reads as remove-balance-right-reads
+use Rattle.fusing.proofs.remove_fuse.Reads as remove-fuse-reads
 use Rattle.removal.proofs.+del+del_left+del_right.{statement}
 use Rattle.removal.proofs.+del+del_left+del_right.Tie.{close}
 

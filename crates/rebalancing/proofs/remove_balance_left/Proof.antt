@@ -1,7 +1,8 @@
 use borrow.Author.Needs.{needs}
-use Rattle.removal.proofs.Sibling.{some-painted, some-beside, room-painted, red-left, black-right, turned-left}
-use Rattle.removal.proofs.remove_balance_left.Statement.{statement}
-use Rattle.removal.proofs.remove_balance_left.Tie as tie
+use Rattle.turning.proofs.Turned.{some-painted, some-beside, room-painted}
+use Rattle.rebalancing.proofs.Sibling.{red-left, black-right, turned-left}
+use Rattle.rebalancing.proofs.remove_balance_left.Statement.{statement}
+use Rattle.rebalancing.proofs.remove_balance_left.Tie as tie
 
 returns : tie.Need-returns
 returns c =

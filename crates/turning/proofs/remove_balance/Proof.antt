@@ -1,7 +1,7 @@
 use borrow.Author.Needs.{needs}
-use Rattle.removal.proofs.Sibling.{room-second, some-second, both-reds, not-both}
-use Rattle.removal.proofs.remove_balance.Statement.{statement}
-use Rattle.removal.proofs.remove_balance.Tie as tie
+use Rattle.turning.proofs.Turned.{room-second, some-second, both-reds, not-both}
+use Rattle.turning.proofs.remove_balance.Statement.{statement}
+use Rattle.turning.proofs.remove_balance.Tie as tie
 
 paint-requires-2 : tie.Need-paint-requires-2
 paint-requires-2 c κs =

@@ -1,7 +1,8 @@
 use borrow.Author.Needs.{needs}
-use Rattle.removal.proofs.Sibling.{some-painted, some-beside, room-painted, red-right, black-left, turned-right}
-use Rattle.removal.proofs.remove_balance_right.Statement.{statement}
-use Rattle.removal.proofs.remove_balance_right.Tie as tie
+use Rattle.turning.proofs.Turned.{some-painted, some-beside, room-painted}
+use Rattle.rebalancing.proofs.Sibling.{red-right, black-left, turned-right}
+use Rattle.rebalancing.proofs.remove_balance_right.Statement.{statement}
+use Rattle.rebalancing.proofs.remove_balance_right.Tie as tie
 
 returns : tie.Need-returns
 returns c =

@@ -1,7 +1,7 @@
 use borrow.Author.Needs.{needs}
-use Rattle.removal.proofs.Sibling.{some-painted, some-beside, room-painted, right-turn}
-use Rattle.removal.proofs.turn_right.Statement.{statement}
-use Rattle.removal.proofs.turn_right.Tie as tie
+use Rattle.turning.proofs.Turned.{some-painted, some-beside, room-painted, right-turn}
+use Rattle.turning.proofs.turn_right.Statement.{statement}
+use Rattle.turning.proofs.turn_right.Tie as tie
 
 pub turn-right-spec : {M : Type 1} → statement M
 turn-right-spec =

@@ -1,7 +1,7 @@
 use borrow.Author.Needs.{needs}
-use Rattle.removal.proofs.Joining.{join-between, join-red, room-leans, some-leans, join-leans, join-black}
-use Rattle.removal.proofs.fuse_join.Statement.{statement}
-use Rattle.removal.proofs.fuse_join.Tie as tie
+use Rattle.fusing.proofs.Joining.{join-between, join-red, room-leans, some-leans, join-leans, join-black}
+use Rattle.fusing.proofs.fuse_join.Statement.{statement}
+use Rattle.fusing.proofs.fuse_join.Tie as tie
 
 returns : tie.Need-returns
 returns c =

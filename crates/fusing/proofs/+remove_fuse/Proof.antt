@@ -1,17 +1,17 @@
 use borrow.Author.Needs.{needs}
-use Rattle.removal.proofs.Joining.{fuse-left-none, fuse-right-none, two, one, less-two, less-one, room-two, room-one, twin-inner, twin-right, twin-left, room-join, room-push, ends-fused, fused-same, fused-right, fused-left}
+use Rattle.fusing.proofs.Joining.{fuse-left-none, fuse-right-none, two, one, less-two, less-one, room-two, room-one, twin-inner, twin-right, twin-left, room-join, room-push, ends-fused, fused-same, fused-right, fused-left}
 use Prim.Native.Nat.{ℕ, _<_}
 use borrow.Fn.Kinds.{In}
 use borrow.Fn.PlainCycle.{Measures, is, falls, and}
-use Rattle.removal.proofs.remove_fuse.Reads as remove-fuse
-use Rattle.removal.proofs.remove_fuse.Kinds as remove-fuse-kinds
-use Rattle.removal.proofs.+remove_fuse.Lts-remove_fuse as remove-fuse-lts
+use Rattle.fusing.proofs.remove_fuse.Reads as remove-fuse
+use Rattle.fusing.proofs.remove_fuse.Kinds as remove-fuse-kinds
+use Rattle.fusing.proofs.+remove_fuse.Lts-remove_fuse as remove-fuse-lts
 use Rattle.plan.proofs.copy.Reads as copy-reads
 use Rattle.plan.proofs.look.Reads as look-reads
 use Rattle.plan.proofs.push.Reads as push-reads
-use Rattle.removal.proofs.fuse_join.Reads as fuse-join-reads
-use Rattle.removal.proofs.+remove_fuse.{statement}
-use Rattle.removal.proofs.+remove_fuse.Tie.{close}
+use Rattle.fusing.proofs.fuse_join.Reads as fuse-join-reads
+use Rattle.fusing.proofs.+remove_fuse.{statement}
+use Rattle.fusing.proofs.+remove_fuse.Tie.{close}
 
 abbrev μ-remove-fuse : Measures 2 remove-fuse-kinds.ps ℕ
 μ-remove-fuse κs a = a .1 .1 .1 .1 .0

@@ -1,7 +1,7 @@
 use borrow.Author.Needs.{needs}
-use Rattle.removal.proofs.Sibling.{some-painted, some-beside, room-painted, left-turn}
-use Rattle.removal.proofs.turn_left.Statement.{statement}
-use Rattle.removal.proofs.turn_left.Tie as tie
+use Rattle.turning.proofs.Turned.{some-painted, some-beside, room-painted, left-turn}
+use Rattle.turning.proofs.turn_left.Statement.{statement}
+use Rattle.turning.proofs.turn_left.Tie as tie
 
 pub turn-left-spec : {M : Type 1} → statement M
 turn-left-spec =

@@ -15,7 +15,9 @@ use Rattle.plan.specs.Steps.{Looks, Steps, itself, Turns}
 use Rattle.plan.proofs.Holdings.{code-same, is-leaf}
 use Rattle.plan.proofs.Growing.{room-less, room-after, onward, grow-to, some-kept}
 use Rattle.plan.proofs.Looking.{is-red, not-red, Topped, topped}
-use Rattle.removal.specs.Contracts.{sideRoom, joinRoom, fuseRoom, balanceLeft, Leans, Twin, Joins, Ends, Fuses}
+use Rattle.turning.specs.Contracts.{sideRoom}
+use Rattle.rebalancing.specs.Contracts.{balanceLeft, Leans}
+use Rattle.fusing.specs.Contracts.{joinRoom, fuseRoom, Twin, Joins, Ends, Fuses}
 
 -- The other colour.
 not-red-color : (c : Color) → (code c ≡ 0 → ⊥) → c ≡ black
