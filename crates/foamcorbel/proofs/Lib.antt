@@ -1,0 +1,3 @@
+pub mod AnswersPassed
+pub mod WalkRead
+pub mod ResultLaws
