@@ -1,3 +1,2 @@
-pub mod AnswersPassed
-pub mod WalkRead
+pub mod Steps
 pub mod ResultLaws

@@ -12,7 +12,8 @@ use Rattle.calls.specs.Alike.{renamedBy, SameBut}
 use Rattle.calls.proofs.Decisions.{First, Passed, Either, either}
 use Rattle.calls.proofs.Histories.{accepted-no}
 use Rattle.calls.proofs.Determined.{determined}
-use Rattle.foamcorbel.specs.Results.{status, written, Gives}
+use Rattle.passing.specs.Results.{status, written}
+use Rattle.foamcorbel.specs.Gives.{Gives}
 
 number-positive : (q : Refusal) → 1 ≤ number q
 number-positive Refusal.bad-shape = omega arith

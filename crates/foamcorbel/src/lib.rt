@@ -1,23 +1,20 @@
 // The calls of document 01 as C functions, which include/foamcorbel.h declares: any words, slots, keys and walks may come in. The result is the
 // refusal's number, 0 when accepted; values go to the words lent as `out`, which a refusal leaves as they were.
-mod passing;
-mod walks;
-
-use self::passing::pass_done;
-use self::passing::pass_entry;
-use self::passing::pass_number;
-use self::passing::pass_sign;
-use self::passing::pass_slot;
-use self::passing::pass_truth;
-use self::passing::pass_value;
-use self::walks::walk_in;
 use arena::Entry;
+use passing::pass_done;
+use passing::pass_entry;
+use passing::pass_number;
+use passing::pass_sign;
+use passing::pass_slot;
+use passing::pass_truth;
+use passing::pass_value;
+use passing::walks::walk_in;
 use reading::TruthAnswer;
 ghost use mathlib.Core.List.{[]};
 ghost use Rattle.trees.specs.Range.{front as atFront, back as atBack};
 ghost use Rattle.calls.specs.Call.{Call};
-ghost use Rattle.foamcorbel.specs.Results.{Gives};
-ghost use Rattle.foamcorbel.specs.Walks.{walkIn};
+ghost use Rattle.foamcorbel.specs.Gives.{Gives};
+ghost use Rattle.passing.specs.Walks.{walkIn};
 
 // Records N and V, makes all nodes free and no slot held. Any old contents will do.
 #[no_mangle]

@@ -1,5 +1,5 @@
 use borrow.Author.Needs.{needs}
-use Rattle.foamcorbel.proofs.WalkRead.{step-gives}
+use Rattle.foamcorbel.proofs.Steps.{step-gives}
 use Rattle.foamcorbel.proofs.foamcorbel_step_back.Statement.{statement}
 use Rattle.foamcorbel.proofs.foamcorbel_step_back.Tie as tie
 

@@ -1,0 +1,2 @@
+pub mod AnswersPassed
+pub mod WalkRead
