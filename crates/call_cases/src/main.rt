@@ -18,9 +18,9 @@ use self::lines::size;
 use self::lines::sound;
 use self::lines::step_back;
 use self::lines::step_front;
-use lookup::Bound;
-use lookup::LastKey;
-use lookup::Range;
+use ranges::Bound;
+use ranges::LastKey;
+use ranges::Range;
 use reading::Walk;
 
 // The greatest key, and the greatest number that a slot may be called by.

@@ -11,8 +11,8 @@ use Rattle.heights.proofs.Choices.{fork}
 use Rattle.trees.specs.Tree.{Entry}
 use Rattle.trees.specs.Listing.{firstOf, Above, Ascending}
 use Rattle.trees.specs.Range.{remains}
-use Rattle.lookup.specs.declared.LastKey.{LastKey}
-use Rattle.lookup.specs.declared.LastKey.the-variants.{Given, NotGiven}
+use Rattle.ranges.specs.declared.LastKey.{LastKey}
+use Rattle.ranges.specs.declared.LastKey.the-variants.{Given, NotGiven}
 use Rattle.comparing.specs.Pairs.{after, rest}
 
 -- The key k is above the last key; not below it.

@@ -14,8 +14,8 @@ use Rattle.words.specs.Reads.{Reads}
 use Rattle.words.proofs.Holding.{reads-same}
 use Rattle.lookup.specs.Finding.{foundOf, Finds}
 use Rattle.lookup.specs.declared.Found.{Found}
-use Rattle.lookup.specs.declared.LastKey.{LastKey}
-use Rattle.lookup.specs.declared.LastKey.the-variants.{Given, NotGiven}
+use Rattle.ranges.specs.declared.LastKey.{LastKey}
+use Rattle.ranges.specs.declared.LastKey.the-variants.{Given, NotGiven}
 use Rattle.reading.specs.declared.Sign.{Sign}
 use Rattle.reading.specs.declared.Sign.the-variants.{Same}
 use Rattle.reading.specs.Answers.{signOf}

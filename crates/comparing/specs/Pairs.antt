@@ -10,9 +10,10 @@ use Rattle.trees.specs.Lookup.{step}
 use Rattle.trees.specs.Order.{same, compareEntries, compare}
 use Rattle.words.specs.Layout.{nodes, maxHeight}
 use Rattle.words.specs.Reads.{Reads}
-use Rattle.lookup.specs.Finding.{foundOf, lastOf, Rooted, Finds}
+use Rattle.lookup.specs.Finding.{foundOf, Rooted, Finds}
 use Rattle.lookup.specs.declared.Found.{Found}
-use Rattle.lookup.specs.declared.LastKey.{LastKey}
+use Rattle.ranges.specs.declared.LastKey.{LastKey}
+use Rattle.ranges.specs.Ranges.{lastOf}
 use Rattle.reading.specs.declared.Sign.{Sign}
 use Rattle.reading.specs.Answers.{signOf}
 use Rattle.comparing.specs.declared.Pair.{Pair}

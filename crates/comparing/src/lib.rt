@@ -1,10 +1,10 @@
 // Document 01's compare and equal, on a sound arena: both versions are walked from the front, and the first differing pair decides.
 use arena::Entry;
-use lookup::Bound;
 use lookup::Found;
-use lookup::LastKey;
-use lookup::Range;
-use lookup::step_front;
+use ranges::Bound;
+use ranges::LastKey;
+use ranges::Range;
+use ranges::step_front;
 use reading::Entered;
 use reading::Sign;
 use reading::SignAnswer;

@@ -5,9 +5,9 @@ ghost use Rattle.fusing.specs.Contracts.{joinRoom, fuseRoom, Twin, Joins
 use arena::BLACK;
 use arena::Node;
 use arena::RED;
-use plan::copy;
 use plan::look;
-use plan::push;
+use planning::copy;
+use planning::push;
 use rebalancing::remove_balance_left;
 
 // Two nodes of one colour, and m, to which their inner children were fused: a red one comes between them, any other below.

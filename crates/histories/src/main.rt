@@ -1,9 +1,9 @@
 // Runs long random histories of insert, remove and release, and holds the arena to a plain table after every step.
 // In the table the place k has the value of the k-th key, 0 where there is no such entry.
 use arena::Entry;
-use lookup::Bound;
-use lookup::LastKey;
-use lookup::Range;
+use ranges::Bound;
+use ranges::LastKey;
+use ranges::Range;
 use reading::EntryAnswer;
 use reading::NumberAnswer;
 use reading::Refusal;

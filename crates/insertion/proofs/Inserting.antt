@@ -5,7 +5,7 @@ use mathlib.Core.List.{List}
 use Prim.Native.Nat.{ℕ, _-_, _≤_, _<_}
 use native.Mathlib.Omega.{arith}
 use borrow.Author.Tests.{lt-ltb, le-ltb}
-use Rattle.trees.specs.Tree.{red, black, Tree, node, lf, rt}
+use Rattle.trees.specs.Tree.{red, black, Tree, lf, rt}
 use Rattle.trees.specs.Lookup.{has}
 use Rattle.trees.specs.Insert.{balance, settle, ins, insert}
 use Rattle.words.specs.Layout.{code}
@@ -17,7 +17,8 @@ use Rattle.plan.specs.Steps.{Looks, Steps, itself, Turns, Paints}
 use Rattle.plan.proofs.Holdings.{is-leaf}
 use Rattle.plan.proofs.Growing.{room-less, room-after, onward, grow-to}
 use Rattle.plan.proofs.Looking.{topped, tall}
-use Rattle.insertion.specs.Contracts.{balanceRoom, insRoom, insertRoom, News}
+use Rattle.balancing.specs.Contracts.{balanceRoom}
+use Rattle.insertion.specs.Contracts.{insRoom, insertRoom, News}
 
 module _ {ws p p' : List ℕ} {x : Node} {new : Bool} {res : ℕ} where
   pub settle-new : new ≡ true → Steps ws p p' balanceRoom x res balance → Steps ws p p' balanceRoom x res (settle (not new))

@@ -1,2 +1,1 @@
-pub mod Balancing
 pub mod Inserting

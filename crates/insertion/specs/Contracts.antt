@@ -1,37 +1,19 @@
 -- What the steps of insertion ask and promise, beside those of the plan.
 use mathlib.Core.Path.{_≡_}
-use mathlib.Core.Bool.{Bool, false, not, _&&_}
+use mathlib.Core.Bool.{Bool, not}
 use mathlib.Core.List.{List}
 use Prim.Native.Nat.{ℕ, _+_, _*_}
-use Rattle.trees.specs.Tree.{Tree, lf, rt, isRed}
+use Rattle.trees.specs.Tree.{Tree}
 use Rattle.trees.specs.Lookup.{has}
-use Rattle.trees.specs.Insert.{risen}
-use Rattle.arena.specs.declared.Node.{Node}
-use Rattle.arena.specs.Nodes.{entryOf}
 use Rattle.plan.specs.Held.{Holds}
-use Rattle.plan.specs.Steps.{Grown}
+use Rattle.balancing.specs.Contracts.{balanceRoom}
 
--- How many nodes a step adds to the plan at most: `balance` makes three nodes anew; `ins` runs it at each level and makes one node more;
--- the root is painted.
-abbrev pub balanceRoom : ℕ
-balanceRoom = 3
-
+-- How many nodes a step adds to the plan at most: `ins` balances at each level and makes one node more; the root is painted.
 abbrev pub insRoom : ℕ → ℕ
 insRoom h = balanceRoom * h + 1
 
 abbrev pub insertRoom : ℕ → ℕ
 insertRoom h = insRoom h + 1
-
--- Three nodes were made: the entry of y rises red, between x and z, which are black.
-pub record Rises (ws plan plan' : List ℕ) (x y z : Node) (r : ℕ) : Type 0 where
-  pub grown : Grown ws plan plan' balanceRoom
-  pub holds : {a b c d : Tree} → Holds ws plan (x .left) a → Holds ws plan (x .right) b → Holds ws plan (z .left) c → Holds ws plan (z .right) d →
-      Holds ws plan' r (risen a (entryOf (x .entry)) b (entryOf (y .entry)) c (entryOf (z .entry)) d)
-
--- No red child stands below a red root at the link: the first two cases of `balance` do not apply.
-pub record Calm (ws plan : List ℕ) (link : ℕ) : Type 0 where
-  pub no-left : {t : Tree} → Holds ws plan link t → isRed t && isRed (lf t) ≡ false
-  pub no-right : {t : Tree} → Holds ws plan link t → isRed t && isRed (rt t) ≡ false
 
 -- new says whether the key k is new to what the link holds.
 pub record News (ws plan : List ℕ) (link k : ℕ) (new : Bool) : Type 0 where

@@ -1,106 +1,24 @@
-// 000's `balance` and `insert` on a read-only arena and a plan. Modules 4 and 5 of document 01's port order.
-ghost use mathlib.Core.Path.{_≡_};
+// 000's `insert` on a read-only arena and a plan. Module 5 of document 01's port order.
 ghost use mathlib.Core.Bool.{not};
-ghost use Rattle.trees.specs.Insert.{balance as balanceOf, settle as settleOf, ins as insOf, insert as insertOf};
+ghost use Rattle.trees.specs.Insert.{settle as settleOf, ins as insOf, insert as insertOf};
 ghost use Rattle.arena.specs.Nodes.{entryOf};
 ghost use Rattle.plan.specs.Held.{Some, Held, Room};
 ghost use Rattle.plan.specs.Steps.{Steps, Turns};
-ghost use Rattle.insertion.specs.Contracts.{balanceRoom, insRoom, insertRoom, Rises, Calm, News};
+ghost use Rattle.balancing.specs.Contracts.{balanceRoom};
+ghost use Rattle.insertion.specs.Contracts.{insRoom, insertRoom, News};
 use arena::BLACK;
 use arena::Entry;
 use arena::Node;
 use arena::RED;
-use plan::both_red;
+use balancing::balance;
 use plan::look;
-use plan::paint;
-use plan::push;
+use planning::paint;
+use planning::push;
 
 // A link, and whether its key is new.
 pub struct Put {
     pub link: u32,
     pub new: bool,
-}
-
-// "The middle key rises red, its children are black": y between x and z.
-fn rise(ws: &[u32], plan: &mut [u32], x: Node, y: Node, z: Node) -> u32
-    requires { ⌜ Room (now ws) (now plan) balanceRoom ⌝ }
-    ensures { λ r. ⌜ Rises (now (ws .entry)) (now (plan .entry)) (now (plan .exit)) x y z r ⌝ }
-{
-    let mut a = x;
-    a.color = BLACK;
-    let mut b = z;
-    b.color = BLACK;
-    let mut top = y;
-    top.color = RED;
-    top.left = push(ws, plan, a);
-    top.right = push(ws, plan, b);
-    push(ws, plan, top)
-}
-
-// The third and the fourth case of `balance`, at a black node to which the first two do not apply.
-fn balance_right(ws: &[u32], plan: &mut [u32], x: Node) -> u32
-    requires { ⌜ Room (now ws) (now plan) balanceRoom ⌝ }
-    requires { ⌜ x .color ≡ 1 ⌝ }
-    requires { ⌜ Calm (now ws) (now plan) (x .left) ⌝ }
-    requires { ⌜ Some (now ws) (now plan) (x .right) ⌝ }
-    ensures { λ r. ⌜ Steps (now (ws .entry)) (now (plan .entry)) (now (plan .exit)) balanceRoom x r balanceOf ⌝ }
-{
-    let r = look(ws, plan, x.right);
-    let rl = look(ws, plan, r.left);
-    if both_red(r, rl) {
-        let mut a = x;
-        a.right = rl.left;
-        let mut b = r;
-        b.left = rl.right;
-        return rise(ws, plan, a, rl, b);
-    }
-    let rr = look(ws, plan, r.right);
-    if both_red(r, rr) {
-        let mut a = x;
-        a.right = r.left;
-        return rise(ws, plan, a, r, rr);
-    }
-    push(ws, plan, x)
-}
-
-// The four cases at a black node, in source order.
-fn balance_black(ws: &[u32], plan: &mut [u32], x: Node) -> u32
-    requires { ⌜ Room (now ws) (now plan) balanceRoom ⌝ }
-    requires { ⌜ x .color ≡ 1 ⌝ }
-    requires { ⌜ Some (now ws) (now plan) (x .left) ⌝ }
-    requires { ⌜ Some (now ws) (now plan) (x .right) ⌝ }
-    ensures { λ r. ⌜ Steps (now (ws .entry)) (now (plan .entry)) (now (plan .exit)) balanceRoom x r balanceOf ⌝ }
-{
-    let l = look(ws, plan, x.left);
-    let ll = look(ws, plan, l.left);
-    if both_red(l, ll) {
-        let mut b = x;
-        b.left = l.right;
-        return rise(ws, plan, ll, l, b);
-    }
-    let lr = look(ws, plan, l.right);
-    if both_red(l, lr) {
-        let mut a = l;
-        a.right = lr.left;
-        let mut b = x;
-        b.left = lr.right;
-        return rise(ws, plan, a, lr, b);
-    }
-    balance_right(ws, plan, x)
-}
-
-// "four cases at a black node only": x is written down with what balances it.
-pub fn balance(ws: &[u32], plan: &mut [u32], x: Node) -> u32
-    requires { ⌜ Room (now ws) (now plan) balanceRoom ⌝ }
-    requires { ⌜ Some (now ws) (now plan) (x .left) ⌝ }
-    requires { ⌜ Some (now ws) (now plan) (x .right) ⌝ }
-    ensures { λ r. ⌜ Steps (now (ws .entry)) (now (plan .entry)) (now (plan .exit)) balanceRoom x r balanceOf ⌝ }
-{
-    if x.color == BLACK {
-        balance_black(ws, plan, x)
-    } else {
-        push(ws, plan, x)
-    }
 }
 
 // "balance runs at each node on the way up" where the key is new.

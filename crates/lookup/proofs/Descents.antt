@@ -1,6 +1,5 @@
 -- A step of a descent, for each lookup: what it asks of the next link, and what its answer means here.
-use mathlib.Core.Path.{_≡_, refl, sym, ap, _∙_, subst}
-use mathlib.Core.Bool.{Bool, true, false}
+use mathlib.Core.Path.{_≡_, refl, ap, _∙_, subst}
 use mathlib.Core.List.{List}
 use mathlib.Core.Option.{Option}
 use Prim.Native.Nat.{ℕ, _-_, _≤_, _<_}
@@ -8,8 +7,8 @@ use native.Mathlib.Omega.{arith}
 use borrow.Author.Tests.{lt-ltb, le-ltb}
 use Rattle.trees.specs.Tree.{Entry, Color, Place, Tree, leaf, node, height}
 use Rattle.trees.specs.Listing.{orElse}
-use Rattle.trees.specs.Lookup.{get, first, last, least, greatest}
-use Rattle.words.specs.Layout.{entry, left, right}
+use Rattle.trees.specs.Lookup.{get, first, last}
+use Rattle.words.specs.Layout.{left, right}
 use Rattle.words.specs.Reads.{Reads}
 use Rattle.arena.specs.Nodes.{entryOf, NodeInside, IsNode}
 use Rattle.arena.specs.declared.Node.{Node}
@@ -44,15 +43,18 @@ module _ {ws : List ℕ} {i h : ℕ} (k : Rooted ws i h) (some-node : i ≡ 0 �
   pub rooted-right : {d : Node} → IsNode ws i d → Rooted ws (d .right) (h - 1)
   rooted-right d = rw (d .right-is) (sides (k .tree) (k .reads) (k .low) .1)
 
+-- Either side can be descended into; which one it has to be, the answer shows.
+pub ruleset rooted-sides = (rooted-left, rooted-right)
+
 -- At none, and at a node with its two sides.
-at-none : {ws : List ℕ} {i : ℕ} (r : Found) (f : Tree → Option Entry) → i ≡ 0 → foundOf r ≡ f leaf → Finds ws i r f
+pub at-none : {ws : List ℕ} {i : ℕ} (r : Found) (f : Tree → Option Entry) → i ≡ 0 → foundOf r ≡ f leaf → Finds ws i r f
 at-none {ws} {i} r f e a = record { says = λ n t q. go n t q }
   where
     go : (n : ℕ) (t : Tree) → Reads n ws i t → foundOf r ≡ f t
     go n leaf q = a
     go n (node p c l x r') q = absurd (omega (arith, q .1 .low))
 
-at-node : {ws : List ℕ} {i : ℕ} {d : Node} (r : Found) (f : Tree → Option Entry) → (i ≡ 0 → ⊥) → IsNode ws i d →
+pub at-node : {ws : List ℕ} {i : ℕ} {d : Node} (r : Found) (f : Tree → Option Entry) → (i ≡ 0 → ⊥) → IsNode ws i d →
     ((n : ℕ) (p : Place) (c : Color) (a b : Tree) → Reads n ws (d .left) a → Reads n ws (d .right) b →
     foundOf r ≡ f (node p c a (entryOf (d .entry)) b)) → Finds ws i r f
 at-node {ws} {i} {d} r f s m g = record { says = λ n t q. go n t q }
@@ -78,14 +80,6 @@ module _ {ws : List ℕ} {i : ℕ} where
   unfolding last
   last-none e = at-none Nothing last e refl
 
-  pub least-none : (p : ℕ → Bool) → i ≡ 0 → Finds ws i Nothing (least p)
-  unfolding least
-  least-none p e = at-none Nothing (least p) e refl
-
-  pub greatest-none : (p : ℕ → Bool) → i ≡ 0 → Finds ws i Nothing (greatest p)
-  unfolding greatest
-  greatest-none p e = at-none Nothing (greatest p) e refl
-
 module _ {ws : List ℕ} {i : ℕ} {d : Node} (s : i ≡ 0 → ⊥) (m : IsNode ws i d) where
   module _ (k : ℕ) where
     pub get-left : {r : Found} → k < d .entry .key → Finds ws (d .left) r (get k) → Finds ws i r (get k)
@@ -109,24 +103,3 @@ module _ {ws : List ℕ} {i : ℕ} {d : Node} (s : i ≡ 0 → ⊥) (m : IsNode 
   pub last-right : {l r : Found} → Finds ws (d .right) l last → foundOf r ≡ orElse (foundOf l) (entryOf (d .entry)) → Finds ws i r last
   unfolding last
   last-right {l} {r} g e = at-node r last s m (λ n p c a b ha hb. e ∙ ap (λ (o : Option Entry). orElse o (entryOf (d .entry))) (g .says n b hb))
-
-  module _ (p : ℕ → Bool) {t : Bool} (tested : t ≡ p (d .entry .key)) where
-    pub least-left : {l r : Found} → t ≡ true → Finds ws (d .left) l (least p) → foundOf r ≡ orElse (foundOf l) (entryOf (d .entry)) →
-        Finds ws i r (least p)
-    unfolding least
-    least-left {l} {r} y g e =
-        at-node r (least p) s m (λ n q c a b ha hb. rw (sym tested ∙ y) (e ∙ ap (λ (o : Option Entry). orElse o (entryOf (d .entry))) (g .says n a ha)))
-
-    pub least-right : {r : Found} → t ≡ false → Finds ws (d .right) r (least p) → Finds ws i r (least p)
-    unfolding least
-    least-right {r} y g = at-node r (least p) s m (λ n q c a b ha hb. rw (sym tested ∙ y) (g .says n b hb))
-
-    pub greatest-right : {l r : Found} → t ≡ true → Finds ws (d .right) l (greatest p) → foundOf r ≡ orElse (foundOf l) (entryOf (d .entry)) →
-        Finds ws i r (greatest p)
-    unfolding greatest
-    greatest-right {l} {r} y g e =
-        at-node r (greatest p) s m (λ n q c a b ha hb. rw (sym tested ∙ y) (e ∙ ap (λ (o : Option Entry). orElse o (entryOf (d .entry))) (g .says n b hb)))
-
-    pub greatest-left : {r : Found} → t ≡ false → Finds ws (d .left) r (greatest p) → Finds ws i r (greatest p)
-    unfolding greatest
-    greatest-left {r} y g = at-node r (greatest p) s m (λ n q c a b ha hb. rw (sym tested ∙ y) (g .says n a ha))

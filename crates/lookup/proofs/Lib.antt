@@ -1,3 +1,3 @@
 pub mod Descents
-pub mod Limits
+pub mod Chosen
 pub mod Versions

@@ -5,33 +5,15 @@ use mathlib.Core.Option.{Option, none, some}
 use Prim.Native.Nat.{ℕ, _+_, _*_, _≤_}
 use lib.ListN.{length}
 use Rattle.trees.specs.Tree as trees
-use Rattle.trees.specs.Range as range
 use Rattle.words.specs.Layout.{nodeWords, headerWords}
 use Rattle.words.specs.Reads.{Reads}
 use Rattle.arena.specs.Nodes.{entryOf}
 use Rattle.lookup.specs.declared.Found.{Found}
 use Rattle.lookup.specs.declared.Found.the-variants.{At, Nothing}
-use Rattle.lookup.specs.declared.Bound.{Bound}
-use Rattle.lookup.specs.declared.Bound.the-variants.{Included, Excluded, Unbounded}
-use Rattle.lookup.specs.declared.LastKey.{LastKey}
-use Rattle.lookup.specs.declared.LastKey.the-variants.{Given, NotGiven}
-use Rattle.lookup.specs.declared.Range.{Range}
 
 abbrev pub foundOf : Found → Option trees.Entry
 foundOf (At e) = some (entryOf e)
 foundOf Nothing = none
-
-abbrev pub boundOf : Bound → range.Bound
-boundOf (Included k) = range.included k
-boundOf (Excluded k) = range.excluded k
-boundOf Unbounded = range.unbounded
-
-abbrev pub lastOf : LastKey → Option ℕ
-lastOf (Given k) = some k
-lastOf NotGiven = none
-
-abbrev pub rangeOf : Range → range.Range
-rangeOf w = record { start = boundOf (w .start); end = boundOf (w .end); given-front = lastOf (w .front); given-back = lastOf (w .back) }
 
 -- The link i holds a tree of height h at most, in an arena that has all its nodes.
 pub record Rooted (ws : List ℕ) (i h : ℕ) : Type 0 where

@@ -4,9 +4,9 @@ use mathlib.Core.List.{List}
 use Prim.Native.Nat.{ℕ}
 use lib.ListN.{getD}
 use borrow.Author.Tests.{eq-eqb, ne-eqb}
-use Rattle.lookup.specs.declared.Bound.{Bound}
-use Rattle.lookup.specs.declared.LastKey.{LastKey}
-use Rattle.lookup.specs.Finding.{boundOf, lastOf}
+use Rattle.ranges.specs.declared.Bound.{Bound}
+use Rattle.ranges.specs.declared.LastKey.{LastKey}
+use Rattle.ranges.specs.Ranges.{boundOf, lastOf}
 use Rattle.reading.specs.declared.Walk.{Walk}
 use Rattle.reading.specs.Answers.{walkOf}
 use Rattle.passing.specs.Walks.{boundIn, lastIn, walkIn}

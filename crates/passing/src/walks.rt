@@ -1,10 +1,10 @@
 // A walk from nine lent words, by the rule of specs/Walks.antt.
-use lookup::Bound;
-use lookup::LastKey;
-use lookup::Range;
+use ranges::Bound;
+use ranges::LastKey;
+use ranges::Range;
 use reading::Walk;
 ghost use mathlib.Core.Path.{_≡_};
-ghost use Rattle.lookup.specs.Finding.{boundOf, lastOf};
+ghost use Rattle.ranges.specs.Ranges.{boundOf, lastOf};
 ghost use Rattle.reading.specs.Answers.{walkOf};
 ghost use Rattle.passing.specs.Walks.{boundIn, lastIn, walkIn};
 

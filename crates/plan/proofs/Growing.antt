@@ -5,7 +5,7 @@ use Prim.Native.Nat.{ℕ, _+_, _≤_}
 use native.Mathlib.Omega.{arith}
 use Rattle.trees.specs.Tree.{Tree}
 use Rattle.plan.specs.Held.{Some, Room}
-use Rattle.plan.specs.Steps.{Grown, Steps, Turns}
+use Rattle.plan.specs.Steps.{Grown, Turns}
 
 pub room-less : {ws plan : List ℕ} {j k : ℕ} → Room ws plan k → j ≤ k → Room ws plan j
 room-less h le = record { arena = h .arena; room = (let r = h .room in omega arith); links = (let l = h .links in omega arith) }

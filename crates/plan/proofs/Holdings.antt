@@ -1,7 +1,7 @@
 -- Laws of `Holds`: a link holds one tree at most, and what a plan holds, one with the same nodes and more holds too.
 use mathlib.Core.Path.{_≡_, refl, sym, subst, _∙_}
 use mathlib.Core.List.{List}
-use Prim.Native.Nat.{ℕ, _-_, _≤_, _<_}
+use Prim.Native.Nat.{ℕ, _≤_, _<_}
 use native.Mathlib.Omega.{arith}
 use Rattle.trees.specs.Tree.{Color, red, black, Tree, leaf, node, made}
 use Rattle.words.specs.Layout.{nodes, left, right, code}

@@ -1,5 +1,4 @@
 pub mod Holdings
-pub mod Pushing
 pub mod Growing
 pub mod Looking
 pub mod Sounding

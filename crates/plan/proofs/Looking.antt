@@ -1,4 +1,4 @@
--- What `look`, `copy` and `paint` answer.
+-- What `look` answers, and what the colours that were read say.
 use mathlib.Core.Path.{_≡_, refl, sym, ap, ap₂, subst, _∙_}
 use mathlib.Core.Bool.{Bool, true, false, _&&_}
 use mathlib.Core.List.{List}
@@ -6,15 +6,14 @@ use Prim.Native.Nat.{ℕ, _+_, _-_, _≤_, _<_}
 use native.Mathlib.Omega.{arith}
 use lib.Dec.{eqb}
 use borrow.Author.Tests.{eq-eqb, ne-eqb}
-use Rattle.trees.specs.Tree.{Color, red, black, Place, kept, fresh, Tree, leaf, node, lf, rt, isRed, isBlack, copy, height}
+use Rattle.trees.specs.Tree.{Color, red, black, Place, kept, fresh, Tree, leaf, node, lf, rt, isRed, isBlack, height}
 use Rattle.words.specs.Layout.{nodes, code}
 use Rattle.arena.specs.declared.Node.{Node}
 use Rattle.arena.specs.Nodes.{entryOf, IsNode}
 use Rattle.plan.specs.Scratch.{PlanInside, IsPlanned}
 use Rattle.plan.specs.Held.{spot, Holds, none, shared, planned, Some, Held, Room}
-use Rattle.plan.specs.Steps.{noColor, hue, Sees, Looks, Steps, itself, Turns, Paints}
+use Rattle.plan.specs.Steps.{noColor, hue, Sees, Looks}
 use Rattle.plan.proofs.Holdings.{is-leaf}
-use Rattle.plan.proofs.Growing.{no-growth}
 
 -- Where there is no node.
 abbrev pub nothing : Node
@@ -158,23 +157,3 @@ module _ (a b : ℕ) where
 
   pub first-not : (a ≡ 0 → ⊥) → false ≡ (eqb a 0 && eqb b 0)
   first-not ne = rw (ne-eqb a 0 ne)
-
--- `copy` and `paint`.
-pub copy-none : {ws plan : List ℕ} {link : ℕ} → link ≡ 0 → Turns ws plan plan 1 link 0 copy
-copy-none e = record { grown = no-growth 1; holds = λ h. rw (is-leaf e h) (none refl) }
-
-pub copy-node : {ws a b : List ℕ} {link r : ℕ} {x : Node} → Looks ws a link x → (link ≡ 0 → ⊥) → Steps ws a b 1 x r itself → Turns ws a b 1 link r copy
-copy-node L ne S = record {
-  grown = S .grown;
-  holds = λ h. let n = topped L ne h in rw (n .is) (S .holds (n .coded) (L .sees h .left-is) (L .sees h .right-is));
-}
-
-pub paint-none : {ws plan : List ℕ} {link : ℕ} (c : ℕ) → link ≡ 0 → Paints ws plan plan link 0 c
-paint-none c e = record { grown = no-growth 1; holds = λ d k h. rw (is-leaf e h) (none refl) }
-
-pub paint-node : {ws a b : List ℕ} {link r c : ℕ} {x : Node} → Looks ws a link x → (link ≡ 0 → ⊥) →
-    Steps ws a b 1 (record { entry = x .entry; left = x .left; right = x .right; color = c }) r itself → Paints ws a b link r c
-paint-node L ne S = record {
-  grown = S .grown;
-  holds = λ d k h. rw (topped L ne h .is) (S .holds k (L .sees h .left-is) (L .sees h .right-is));
-}

@@ -1,10 +1,9 @@
 -- The plan's words: a scratch lent for one call, to which nodes are only ever added. A word past the end reads as 0.
 use mathlib.Core.Path.{_≡_}
-use mathlib.Core.List.{List, [], _∷_}
+use mathlib.Core.List.{List}
 use Prim.Native.Nat.{ℕ, _+_, _*_, _≤_}
-use lib.ListN.{length, getD, set}
+use lib.ListN.{length, getD}
 use Rattle.trees.specs.Tree.{Entry}
-use Rattle.words.specs.Model.{storing}
 use Rattle.arena.specs.declared.Node.{Node}
 use Rattle.arena.specs.Nodes.{entryOf}
 
@@ -55,11 +54,3 @@ pub record IsPlanned (plan : List ℕ) (j : ℕ) (d : Node) : Type 0 where
   pub left-is : d .left ≡ planLeft plan j
   pub right-is : d .right ≡ planRight plan j
   pub color-is : d .color ≡ planColor plan j
-
--- The words of a plan's node, in their order.
-abbrev pub nodeList : Node → List ℕ
-nodeList x = x .entry .key ∷ (x .entry .value ∷ (x .left ∷ (x .right ∷ (x .color ∷ []))))
-
--- The plan with one node more.
-unfoldable pub pushed : List ℕ → Node → List ℕ
-pushed plan x = set (storing plan (planNodeWords * used plan) planKeyWord (nodeList x)) 0 (used plan + 1)

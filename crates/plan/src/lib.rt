@@ -1,13 +1,11 @@
-// The plan: a call draws up its new nodes in a lent scratch before it writes a word of the arena. Nodes are only added, so that what a link holds, it
-// goes on holding.
+// The plan: a call draws up its new nodes in a lent scratch before it writes a word of the arena. Here it is read; `planning` adds to it.
 ghost use mathlib.Core.Path.{_≡_};
 ghost use mathlib.Core.Bool.{_&&_};
-ghost use Prim.Native.Nat.{_+_, _<_};
+ghost use Prim.Native.Nat.{_+_};
 ghost use lib.Dec.{eqb};
-ghost use Rattle.trees.specs.Tree.{copy as copyOf};
-ghost use Rattle.plan.specs.Scratch.{used, PlanInside, IsPlanned, pushed};
-ghost use Rattle.plan.specs.Held.{Some, wordLimit, Room};
-ghost use Rattle.plan.specs.Steps.{Looks, Steps, itself, Turns, Paints};
+ghost use Rattle.plan.specs.Scratch.{PlanInside, IsPlanned};
+ghost use Rattle.plan.specs.Held.{Some, Room};
+ghost use Rattle.plan.specs.Steps.{Looks};
 use arena::Entry;
 use arena::Node;
 use arena::RED;
@@ -22,15 +20,15 @@ pub const PLAN_HEADER_WORDS: usize = 1;
 
 pub const PLAN_NODE_WORDS: usize = 5;
 
-const PLAN_KEY_WORD: usize = 1;
+pub const PLAN_KEY_WORD: usize = 1;
 
-const PLAN_VALUE_WORD: usize = 2;
+pub const PLAN_VALUE_WORD: usize = 2;
 
-const PLAN_LEFT_WORD: usize = 3;
+pub const PLAN_LEFT_WORD: usize = 3;
 
-const PLAN_RIGHT_WORD: usize = 4;
+pub const PLAN_RIGHT_WORD: usize = 4;
 
-const PLAN_COLOR_WORD: usize = 5;
+pub const PLAN_COLOR_WORD: usize = 5;
 
 // Node j of the plan.
 pub fn planned(plan: &[u32], j: u32) -> Node
@@ -81,58 +79,4 @@ pub fn both_red(a: Node, b: Node) -> bool
         return b.color == RED;
     }
     false
-}
-
-// Writes x after the plan's nodes.
-fn write_node(plan: &mut [u32], x: Node)
-    requires { ⌜ PlanInside (now plan) (used (now plan) + 1) ⌝ }
-    requires { ⌜ used (now plan) + 1 < wordLimit ⌝ }
-    ensures { λ _. ⌜ now (plan .exit) ≡ pushed (now (plan .entry)) x ⌝ }
-{
-    let j = plan[0];
-    let b = PLAN_NODE_WORDS * (j as usize);
-    plan[b + PLAN_KEY_WORD] = x.entry.key;
-    plan[b + PLAN_VALUE_WORD] = x.entry.value;
-    plan[b + PLAN_LEFT_WORD] = x.left;
-    plan[b + PLAN_RIGHT_WORD] = x.right;
-    plan[b + PLAN_COLOR_WORD] = x.color;
-    plan[0] = j + 1;
-}
-
-// Adds the node x, and answers its link.
-pub fn push(ws: &[u32], plan: &mut [u32], x: Node) -> u32
-    requires { ⌜ Room (now ws) (now plan) 1 ⌝ }
-    ensures { λ r. ⌜ Steps (now (ws .entry)) (now (plan .entry)) (now (plan .exit)) 1 x r itself ⌝ }
-{
-    let j = plan[0];
-    write_node(plan, x);
-    nodes_of(ws) + 1 + j
-}
-
-// The node at the link made anew, as `make_mut` does; none stays none.
-pub fn copy(ws: &[u32], plan: &mut [u32], link: u32) -> u32
-    requires { ⌜ Room (now ws) (now plan) 1 ⌝ }
-    requires { ⌜ Some (now ws) (now plan) link ⌝ }
-    ensures { λ r. ⌜ Turns (now (ws .entry)) (now (plan .entry)) (now (plan .exit)) 1 link r copyOf ⌝ }
-{
-    if link == 0 {
-        return 0;
-    }
-    let kept = look(ws, plan, link);
-    push(ws, plan, kept)
-}
-
-// The node at the link made anew in a colour: a shared node keeps its own.
-pub fn paint(ws: &[u32], plan: &mut [u32], link: u32, color: u32) -> u32
-    requires { ⌜ Room (now ws) (now plan) 1 ⌝ }
-    requires { ⌜ Some (now ws) (now plan) link ⌝ }
-    ensures { λ r. ⌜ Paints (now (ws .entry)) (now (plan .entry)) (now (plan .exit)) link r color ⌝ }
-{
-    if link == 0 {
-        return 0;
-    }
-    let x = look(ws, plan, link);
-    let mut y = x;
-    y.color = color;
-    push(ws, plan, y)
 }

@@ -17,10 +17,11 @@ use Rattle.arena.specs.Nodes.{entryOf}
 use Rattle.arena.specs.declared.Entry.{Entry}
 use Rattle.lookup.specs.declared.Found.{Found}
 use Rattle.lookup.specs.declared.Found.the-variants.{At, Nothing}
-use Rattle.lookup.specs.declared.Bound.{Bound}
-use Rattle.lookup.specs.declared.Bound.the-variants.{Included, Excluded}
-use Rattle.lookup.specs.Finding.{foundOf, boundOf, rangeOf, Finds}
+use Rattle.lookup.specs.Finding.{foundOf, Finds}
 use Rattle.lookup.proofs.Versions.{version-finds}
+use Rattle.ranges.specs.declared.Bound.{Bound}
+use Rattle.ranges.specs.declared.Bound.the-variants.{Included, Excluded}
+use Rattle.ranges.specs.Ranges.{boundOf, rangeOf}
 use Rattle.calls.specs.Refusal as calls
 use Rattle.calls.specs.Call as call
 use Rattle.calls.specs.Reading.{valueOf, rescaleSlope}

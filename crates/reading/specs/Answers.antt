@@ -2,9 +2,9 @@
 use Prim.Native.Nat.{ℕ}
 use Rattle.trees.specs.Order as order
 use Rattle.arena.specs.Nodes.{entryOf}
-use Rattle.lookup.specs.Finding.{rangeOf}
 use Rattle.lookup.specs.declared.Found.{Found}
 use Rattle.lookup.specs.declared.Found.the-variants.{At, Nothing}
+use Rattle.ranges.specs.Ranges.{rangeOf}
 use Rattle.calls.specs.Refusal as calls
 use Rattle.calls.specs.Call as call
 use Rattle.reading.specs.declared.Refusal.{Refusal}

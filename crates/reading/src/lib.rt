@@ -5,14 +5,14 @@ use arena::nodes_of;
 use arena::slot_root;
 use arena::slot_size;
 use arena::slots_of;
-use lookup::Bound;
 use lookup::Found;
-use lookup::Range;
+use ranges::Bound;
+use ranges::Range;
 ghost use mathlib.Core.Path.{_≡_};
 ghost use Prim.Native.Nat.{_<_};
 ghost use Rattle.words.specs.Sound.{Sound};
 ghost use Rattle.trees.specs.Range.{badRange, front as atFront, back as atBack};
-ghost use Rattle.lookup.specs.Finding.{boundOf};
+ghost use Rattle.ranges.specs.Ranges.{boundOf};
 ghost use Rattle.calls.specs.Call.{Call};
 ghost use Rattle.calls.specs.Outcome.{Outcome};
 ghost use Rattle.reading.specs.Answers.{refusalNumber, walkOf, numberAnswer, valueAnswer, entryAnswer, truthAnswer, stepped};
@@ -221,7 +221,7 @@ pub fn step_front(ws: &[u32], w: Walk) -> EntryAnswer
             if bad_range(start, end) {
                 return EntryAnswer::Refused(Refusal::BadRange);
             }
-            step_answer(lookup::step_front(ws, i, range))
+            step_answer(ranges::step_front(ws, i, range))
         },
     }
 }
@@ -239,7 +239,7 @@ pub fn step_back(ws: &[u32], w: Walk) -> EntryAnswer
             if bad_range(start, end) {
                 return EntryAnswer::Refused(Refusal::BadRange);
             }
-            step_answer(lookup::step_back(ws, i, range))
+            step_answer(ranges::step_back(ws, i, range))
         },
     }
 }

@@ -12,7 +12,7 @@ use Rattle.plan.specs.Steps.{Looks, Steps, itself, Paints}
 use Rattle.plan.proofs.Holdings.{unique}
 use Rattle.plan.proofs.Growing.{onward}
 use Rattle.plan.proofs.Looking.{is-red, not-red, is-black, not-black}
-use Rattle.insertion.specs.Contracts.{balanceRoom}
+use Rattle.balancing.specs.Contracts.{balanceRoom}
 use Rattle.turning.specs.Contracts.{sideRoom, turnedLeft, turnedRight}
 use Rattle.rebalancing.specs.Contracts.{balanceLeft, balanceRight, Leans}
 

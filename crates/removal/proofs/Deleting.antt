@@ -5,7 +5,7 @@ use mathlib.Core.List.{List}
 use Prim.Native.Nat.{ℕ, _+_, _*_, _-_, _≤_, _<_}
 use native.Mathlib.Omega.{arith}
 use borrow.Author.Tests.{lt-ltb, le-ltb}
-use Rattle.trees.specs.Tree.{red, black, Tree, lf, rt, isRed, isBlack, height}
+use Rattle.trees.specs.Tree.{red, Tree, lf, rt, isRed, isBlack, height}
 use Rattle.trees.specs.Shape.{Rb, rb-leaf, rb-red, rb-black}
 use Rattle.trees.specs.Remove.{fuse, del, delLeft, delRight}
 use Rattle.trees.proofs.RemoveLaws.{not-red-black}

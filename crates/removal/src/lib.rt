@@ -11,8 +11,8 @@ use arena::Node;
 use arena::RED;
 use fusing::remove_fuse;
 use plan::look;
-use plan::paint;
-use plan::push;
+use planning::paint;
+use planning::push;
 use rebalancing::remove_balance_left;
 use rebalancing::remove_balance_right;
 

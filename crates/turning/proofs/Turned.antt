@@ -14,7 +14,7 @@ use Rattle.plan.specs.Held.{Some, Room}
 use Rattle.plan.specs.Steps.{Looks, Steps, itself, Paints}
 use Rattle.plan.proofs.Growing.{room-after, onward, some-kept}
 use Rattle.plan.proofs.Looking.{pair-both}
-use Rattle.insertion.specs.Contracts.{balanceRoom}
+use Rattle.balancing.specs.Contracts.{balanceRoom}
 use Rattle.turning.specs.Contracts.{sideRoom, turnedLeft, turnedRight}
 
 -- After a side was painted red.

@@ -2,16 +2,16 @@
 ghost use Rattle.trees.specs.Remove.{removeBalance};
 ghost use Rattle.plan.specs.Held.{Some, Room};
 ghost use Rattle.plan.specs.Steps.{Looks, Steps};
-ghost use Rattle.insertion.specs.Contracts.{balanceRoom};
+ghost use Rattle.balancing.specs.Contracts.{balanceRoom};
 ghost use Rattle.turning.specs.Contracts.{sideRoom, turnedLeft, turnedRight};
 use arena::BLACK;
 use arena::Node;
 use arena::RED;
-use insertion::balance;
+use balancing::balance;
 use plan::both_red;
 use plan::look;
-use plan::paint;
-use plan::push;
+use planning::paint;
+use planning::push;
 
 // At a node that its caller has made black: two red children are painted black, else `balance`.
 pub fn remove_balance(ws: &[u32], plan: &mut [u32], x: Node) -> u32

@@ -6,9 +6,9 @@ use borrow.Fn.PlainCycle.{Measures, is, falls, and}
 use Rattle.fusing.proofs.remove_fuse.Reads as remove-fuse
 use Rattle.fusing.proofs.remove_fuse.Kinds as remove-fuse-kinds
 use Rattle.fusing.proofs.+remove_fuse.Lts-remove_fuse as remove-fuse-lts
-use Rattle.plan.proofs.copy.Reads as copy-reads
+use Rattle.planning.proofs.copy.Reads as copy-reads
 use Rattle.plan.proofs.look.Reads as look-reads
-use Rattle.plan.proofs.push.Reads as push-reads
+use Rattle.planning.proofs.push.Reads as push-reads
 use Rattle.fusing.proofs.fuse_join.Reads as fuse-join-reads
 use Rattle.fusing.proofs.+remove_fuse.{statement}
 use Rattle.fusing.proofs.+remove_fuse.Tie.{close}

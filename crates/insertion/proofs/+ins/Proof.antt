@@ -10,7 +10,7 @@ use Rattle.insertion.proofs.ins.Kinds as ins-kinds
 use Rattle.insertion.proofs.+ins.Lts-ins as ins-lts
 use Rattle.insertion.proofs.settle.Reads as settle-reads
 use Rattle.plan.proofs.look.Reads as look-reads
-use Rattle.plan.proofs.push.Reads as push-reads
+use Rattle.planning.proofs.push.Reads as push-reads
 use Rattle.insertion.proofs.+ins.{statement}
 use Rattle.insertion.proofs.+ins.Tie.{close}
 

@@ -1,5 +1,5 @@
 use borrow.Author.Needs.{needs}
-use Rattle.lookup.proofs.Descents.{rooted-inside, rooted-high, lower, rooted-left, first-none, first-left}
+use Rattle.lookup.proofs.Descents.{rooted-inside, rooted-high, lower, rooted-sides, first-none, first-left}
 use Prim.Native.Nat.{ℕ, _<_}
 use borrow.Fn.Kinds.{In}
 use borrow.Fn.PlainCycle.{Measures, is, falls, and}
@@ -36,6 +36,6 @@ pub +first-below-spec : {M : Type 1} → statement M
     (λ c. search first-none)
     (λ c κs. search rooted-inside)
     (λ c. search rooted-high)
-    (λ c κs. (search lower, search rooted-left))
+    (λ c κs. (search lower, search rooted-sides))
     (λ c κs. search needs)
     (λ c. search first-left)

@@ -1,5 +1,4 @@
-use borrow.Author.Needs.{needs}
-use Rattle.lookup.proofs.Descents.{rooted-inside, rooted-high, lower, rooted-left, rooted-right, get-none, get-left, get-right, get-here}
+use Rattle.lookup.proofs.Descents.{rooted-inside, rooted-high, lower, rooted-sides, get-none, get-left, get-right, get-here}
 use Prim.Native.Nat.{ℕ, _<_}
 use borrow.Fn.Kinds.{In}
 use borrow.Fn.PlainCycle.{Measures, is, falls, and}
@@ -32,9 +31,9 @@ pub +get-below-spec : {M : Type 1} → statement M
     (λ c. search get-none)
     (λ c κs. search rooted-inside)
     (λ c. search rooted-high)
-    (λ c κs. (search lower, search rooted-left))
+    (λ c κs. (search lower, search rooted-sides))
     (λ c. search rooted-high)
-    (λ c κs. (search lower, search rooted-right))
+    (λ c κs. (search lower, search rooted-sides))
     (λ c. search get-left)
     (λ c. search get-right)
     (λ c. search get-here)

@@ -1,5 +1,5 @@
 use borrow.Author.Needs.{needs}
-use Rattle.lookup.proofs.Limits.{or-some, or-none}
+use Rattle.lookup.proofs.Chosen.{or-some, or-none}
 use Rattle.lookup.proofs.or_else.Statement.{statement}
 use Rattle.lookup.proofs.or_else.Tie as tie
 

@@ -16,7 +16,7 @@ use Rattle.removal.proofs.del_right.Reads as del-right
 use Rattle.removal.proofs.del_right.Kinds as del-right-kinds
 use Rattle.removal.proofs.+del+del_left+del_right.Lts-del_right as del-right-lts
 use Rattle.plan.proofs.look.Reads as look-reads
-use Rattle.plan.proofs.push.Reads as push-reads
+use Rattle.planning.proofs.push.Reads as push-reads
 use Rattle.rebalancing.proofs.remove_balance_left.Reads as remove-balance-left-reads
 use Rattle.rebalancing.proofs.remove_balance_right.Reads as remove-balance-right-reads
 use Rattle.fusing.proofs.remove_fuse.Reads as remove-fuse-reads
@@ -51,6 +51,21 @@ del-right-at t = and 2 del-right-kinds.ps (is 2 del-right-kinds.ps μ-del-right 
 abbrev del-right-below : ℕ → In 2 del-right-kinds.ps
 del-right-below t =
     and 2 del-right-kinds.ps (falls 2 del-right-kinds.ps _<_ μ-del-right t) del-right.Pre
+
+-- Said apart from the whole: here, and not where the side is balanced, the colour of the node above counts.
+left-written : (t : ℕ) → del-left-lts.Need-returns-2 (
+  look-reads.Asked,
+  look-reads.Learnt,
+  del-below t,
+  del.Post,
+  remove-balance-left-reads.Asked,
+  remove-balance-left-reads.Learnt,
+  push-reads.Asked,
+  push-reads.Learnt,
+)
+    (del-left-at t)
+    del-left.Post
+left-written t c = search left-other
 
 pub +del+del-left+del-right-spec : {M : Type 1} → statement M
 +del+del-left+del-right-spec = close μ-del μ-del-left μ-del-right (λ t. del-lts.spec (
@@ -99,7 +114,7 @@ pub +del+del-left+del-right-spec : {M : Type 1} → statement M
     (λ c. search left-black)
     (λ c κs. search room-write)
     (λ c. search needs)
-    (λ c. search left-other))
+    (left-written t))
     λ t. del-right-lts.spec (
       look-reads.Asked,
       look-reads.Learnt,

@@ -1,0 +1,2 @@
+pub mod Digging
+pub mod Limits

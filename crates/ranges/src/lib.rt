@@ -1,0 +1,150 @@
+// The descents of module 8 of document 01's port order: the steps of a walk over a range, over node numbers.
+use arena::MAX_HEIGHT;
+use arena::node_at;
+use lookup::Found;
+use lookup::or_else;
+ghost use mathlib.Core.Path.{_≡_};
+ghost use Rattle.words.specs.Layout.{maxHeight};
+ghost use Rattle.trees.specs.Range.{fromStart, toEnd, past, afterFront, beforeBack, front as atFront, back as atBack};
+ghost use Rattle.trees.specs.Lookup.{least as leastOf, greatest as greatestOf, step as stepOf};
+ghost use Rattle.lookup.specs.Finding.{Rooted, Finds};
+ghost use Rattle.ranges.specs.Ranges.{boundOf, lastOf, rangeOf};
+
+// An end of a range.
+pub enum Bound {
+    Included(u32),
+    Excluded(u32),
+    Unbounded,
+}
+
+// The last key that a walk gave at one of its ends, if any.
+pub enum LastKey {
+    Given(u32),
+    NotGiven,
+}
+
+// What a walk keeps besides its slot.
+pub struct Range {
+    pub start: Bound,
+    pub end: Bound,
+    pub front: LastKey,
+    pub back: LastKey,
+}
+
+fn from_start(b: Bound, key: u32) -> bool
+    ensures { λ r. ⌜ r ≡ fromStart (boundOf b) key ⌝ }
+{
+    match b {
+        Bound::Included(a) => a <= key,
+        Bound::Excluded(a) => a < key,
+        Bound::Unbounded => true,
+    }
+}
+
+fn to_end(b: Bound, key: u32) -> bool
+    ensures { λ r. ⌜ r ≡ toEnd (boundOf b) key ⌝ }
+{
+    match b {
+        Bound::Included(a) => key <= a,
+        Bound::Excluded(a) => key < a,
+        Bound::Unbounded => true,
+    }
+}
+
+// A last key is excluded; none given bounds nothing.
+fn past_last(l: LastKey) -> Bound
+    ensures { λ r. ⌜ boundOf r ≡ past (lastOf l) ⌝ }
+{
+    match l {
+        LastKey::Given(k) => Bound::Excluded(k),
+        LastKey::NotGiven => Bound::Unbounded,
+    }
+}
+
+fn after_front(w: Range, key: u32) -> bool
+    ensures { λ r. ⌜ r ≡ afterFront (rangeOf w) key ⌝ }
+{
+    let start = w.start;
+    let last = w.front;
+    if !from_start(start, key) {
+        return false;
+    }
+    from_start(past_last(last), key)
+}
+
+fn before_back(w: Range, key: u32) -> bool
+    ensures { λ r. ⌜ r ≡ beforeBack (rangeOf w) key ⌝ }
+{
+    let end = w.end;
+    let last = w.back;
+    if !to_end(end, key) {
+        return false;
+    }
+    to_end(past_last(last), key)
+}
+
+// The least entry that the front has not passed: `dig_towards`.
+fn least(ws: &[u32], i: u32, w: Range, h: u32) -> Found
+    requires { ⌜ Rooted (now ws) i h ⌝ }
+    ensures { λ r. ⌜ Finds (now (ws .entry)) i r (leastOf (afterFront (rangeOf w))) ⌝ }
+{
+    if i == 0 {
+        return Found::Nothing;
+    }
+    let d = node_at(ws, i);
+    let e = d.entry;
+    if after_front(w, e.key) {
+        let l = least(ws, d.left, w, h - 1);
+        or_else(l, e)
+    } else {
+        least(ws, d.right, w, h - 1)
+    }
+}
+
+// The greatest entry that the back has not passed.
+fn greatest(ws: &[u32], i: u32, w: Range, h: u32) -> Found
+    requires { ⌜ Rooted (now ws) i h ⌝ }
+    ensures { λ r. ⌜ Finds (now (ws .entry)) i r (greatestOf (beforeBack (rangeOf w))) ⌝ }
+{
+    if i == 0 {
+        return Found::Nothing;
+    }
+    let d = node_at(ws, i);
+    let e = d.entry;
+    if before_back(w, e.key) {
+        let r = greatest(ws, d.right, w, h - 1);
+        or_else(r, e)
+    } else {
+        greatest(ws, d.left, w, h - 1)
+    }
+}
+
+// A front step: the least entry left, unless it has passed the back.
+pub fn step_front(ws: &[u32], i: u32, w: Range) -> Found
+    requires { ⌜ Rooted (now ws) i maxHeight ⌝ }
+    ensures { λ r. ⌜ Finds (now (ws .entry)) i r (stepOf atFront (rangeOf w)) ⌝ }
+{
+    let Found::At(e) = least(ws, i, w, MAX_HEIGHT) else {
+        return Found::Nothing;
+    };
+    if before_back(w, e.key) {
+        Found::At(e)
+    } else {
+        Found::Nothing
+    }
+}
+
+// A back step: the greatest entry left, unless it has passed the front.
+pub fn step_back(ws: &[u32], i: u32, w: Range) -> Found
+    requires { ⌜ Rooted (now ws) i maxHeight ⌝ }
+    ensures { λ r. ⌜ Finds (now (ws .entry)) i r (stepOf atBack (rangeOf w)) ⌝ }
+{
+    let Found::At(e) = greatest(ws, i, w, MAX_HEIGHT) else {
+        return Found::Nothing;
+    };
+    if after_front(w, e.key) {
+        Found::At(e)
+    } else {
+        Found::Nothing
+    }
+}
