@@ -1,4 +1,4 @@
--- "every other node is shared with the parent version": a step keeps no node but those of the tree it is given.
+-- "every other node is shared with the parent version": a step keeps no node but those of the tree it is given, and what is below a kept node stays.
 use Prim.Native.Nat.{ℕ}
 use mathlib.Core.Bool.{Bool}
 use Rattle.heights.proofs.Choices.{fork}
@@ -10,6 +10,87 @@ use Rattle.trees.specs.Edit.{Edit, setting, cutting, edit}
 use Rattle.trees.proofs.InsertCases.{Balance, Settle, still, turned, Ins, inserted}
 use Rattle.trees.proofs.RemoveCases.{RemoveBalance, Left, Right, Fuse, Del, deleted}
 
+-- Every part that begins with a kept node is one of which P holds.
+abbrev pub AtPart : (Tree → Type 0) → Tree → Type 0
+AtPart P leaf = Unit {0}
+AtPart P (node (kept i) c l e r) = P (node (kept i) c l e r)
+AtPart P (node fresh c l e r) = Unit {0}
+
+abbrev pub AllParts : (Tree → Type 0) → Tree → Type 0
+AllParts P leaf = Unit {0}
+AllParts P (node p c l e r) = AtPart P (node p c l e r) × AllParts P l × AllParts P r
+
+module _ (P : Tree → Type 0) where
+  parts-paint : (c : Color) (t : Tree) → AllParts P t → AllParts P (paint c t)
+  parts-paint c leaf a = tt
+  parts-paint c (node p d l e r) a = (tt, a .1, a .2)
+
+  parts-copy : (t : Tree) → AllParts P t → AllParts P (copy t)
+  parts-copy leaf a = tt
+  parts-copy (node p d l e r) a = (tt, a .1, a .2)
+
+  parts-Balance : {t u : Tree} → Balance t u → AllParts P t → AllParts P u
+  parts-Balance Balance.ll a = (tt, (tt, a .1 .1 .1, a .1 .1 .2), (tt, a .1 .2, a .2))
+  parts-Balance (Balance.lr h) a = (tt, (tt, a .1 .1, a .1 .2 .1), (tt, a .1 .2 .2, a .2))
+  parts-Balance (Balance.rl h) a = (tt, (tt, a .1, a .2 .1 .1), (tt, a .2 .1 .2, a .2 .2))
+  parts-Balance (Balance.rr h i) a = (tt, (tt, a .1, a .2 .1), (tt, a .2 .2 .1, a .2 .2 .2))
+  parts-Balance (Balance.calm h) a = a
+
+  parts-RemoveBalance : {t u : Tree} → RemoveBalance t u → AllParts P t → AllParts P u
+  parts-RemoveBalance RemoveBalance.both a = (tt, (tt, a .1 .1, a .1 .2), (tt, a .2 .1, a .2 .2))
+  parts-RemoveBalance (RemoveBalance.plain g) a = parts-Balance g a
+
+  parts-Left : {l r u : Tree} {e : Entry} → Left l e r u → AllParts P l → AllParts P r → AllParts P u
+  parts-Left Left.red-left a b = (tt, (tt, a .1, a .2), b)
+  parts-Left (Left.black-right h g) a b = parts-RemoveBalance g (tt, a, (tt, b .1, b .2))
+  parts-Left (Left.red-right {d = d} h g) a b = (tt, (tt, a, b .1 .1), parts-RemoveBalance g (tt, b .1 .2, parts-paint red d (b .2)))
+  parts-Left (Left.stuck h i) a b = (tt, a, b)
+
+  parts-Right : {l r u : Tree} {e : Entry} → Right l e r u → AllParts P l → AllParts P r → AllParts P u
+  parts-Right Right.red-right a b = (tt, a, (tt, b .1, b .2))
+  parts-Right (Right.black-left h g) a b = parts-RemoveBalance g (tt, (tt, a .1, a .2), b)
+  parts-Right (Right.red-left {d = d} h g) a b = (tt, parts-RemoveBalance g (tt, parts-paint red d (a .1), a .2 .1), (tt, a .2 .2, b))
+  parts-Right (Right.stuck h i) a b = (tt, a, b)
+
+  parts-Fuse : {l r u : Tree} → Fuse l r u → AllParts P l → AllParts P r → AllParts P u
+  parts-Fuse (Fuse.no-left {r = r}) a b = parts-copy r b
+  parts-Fuse Fuse.no-right a b = (tt, a .1, a .2)
+  parts-Fuse (Fuse.black-red g) a b = (tt, parts-Fuse g a (b .1), b .2)
+  parts-Fuse (Fuse.red-black g) a b = (tt, a .1, parts-Fuse g (a .2) b)
+  parts-Fuse (Fuse.middle g) a b = let f = parts-Fuse g (a .2) (b .1) in (tt, (tt, a .1, f .1), (tt, f .2, b .2))
+  parts-Fuse (Fuse.red-red h g) a b = (tt, a .1, (tt, parts-Fuse g (a .2) (b .1), b .2))
+  parts-Fuse (Fuse.black-black h g s) a b = parts-Left s (a .1) (tt, parts-Fuse g (a .2) (b .1), b .2)
+
+  parts-Del : {k : ℕ} {t u : Tree} → Del k t u → AllParts P t → AllParts P u
+  parts-Del Del.none a = tt
+  parts-Del (Del.here h g) a = parts-Fuse g (a .1) (a .2)
+  parts-Del (Del.left h b g) a = (tt, parts-Del g (a .1), a .2)
+  parts-Del (Del.left-black h g s) a = parts-Left s (parts-Del g (a .1)) (a .2)
+  parts-Del (Del.right h b g) a = (tt, a .1, parts-Del g (a .2))
+  parts-Del (Del.right-black h g s) a = parts-Right s (a .1) (parts-Del g (a .2))
+
+  parts-Settle : {b : Bool} {t u : Tree} → Settle b t u → AllParts P t → AllParts P u
+  parts-Settle still a = a
+  parts-Settle (turned g) a = parts-Balance g a
+
+  parts-Ins : {x : Entry} {b : Bool} {t u : Tree} → Ins x b t u → AllParts P t → AllParts P u
+  parts-Ins Ins.new a = (tt, tt, tt)
+  parts-Ins (Ins.here h) a = (tt, a .1, a .2)
+  parts-Ins (Ins.left h g s) a = parts-Settle s (tt, parts-Ins g (a .1), a .2)
+  parts-Ins (Ins.right h g s) a = parts-Settle s (tt, a .1, parts-Ins g (a .2))
+
+  parts-insert : (x : Entry) (t : Tree) → AllParts P t → AllParts P (insert x t)
+  unfolding insert
+  parts-insert x t a = parts-paint black (ins x t) (parts-Ins (inserted x t) a)
+
+  parts-remove : (k : ℕ) (t : Tree) → AllParts P t → AllParts P (remove k t)
+  unfolding remove
+  parts-remove k t a = fork (AllParts P) (has k t) (λ h. parts-paint black (del k t) (parts-Del (deleted k t) a)) (λ h. a)
+
+  pub parts-edit : (d : Edit) (t : Tree) → AllParts P t → AllParts P (edit d t)
+  parts-edit (setting x) t a = parts-insert x t a
+  parts-edit (cutting k) t a = parts-remove k t a
+
 -- Every kept node is one of which P holds.
 abbrev pub At : (ℕ → Type 0) → Place → Type 0
 At P (kept i) = P i
@@ -20,72 +101,19 @@ AllKept P leaf = Unit {0}
 AllKept P (node p c l e r) = At P p × AllKept P l × AllKept P r
 
 module _ (P : ℕ → Type 0) where
-  kept-paint : (c : Color) (t : Tree) → AllKept P t → AllKept P (paint c t)
-  kept-paint c leaf a = tt
-  kept-paint c (node p d l e r) a = (tt, a .1, a .2)
+  abbrev AtNode : Tree → Type 0
+  AtNode leaf = Unit {0}
+  AtNode (node p c l e r) = At P p
 
-  kept-copy : (t : Tree) → AllKept P t → AllKept P (copy t)
-  kept-copy leaf a = tt
-  kept-copy (node p d l e r) a = (tt, a .1, a .2)
+  kept-parts : (t : Tree) → AllKept P t → AllParts AtNode t
+  kept-parts leaf a = tt
+  kept-parts (node (kept i) c l e r) a = (a .0, kept-parts l (a .1), kept-parts r (a .2))
+  kept-parts (node fresh c l e r) a = (tt, kept-parts l (a .1), kept-parts r (a .2))
 
-  kept-Balance : {t u : Tree} → Balance t u → AllKept P t → AllKept P u
-  kept-Balance Balance.ll a = (tt, (tt, a .1 .1 .1, a .1 .1 .2), (tt, a .1 .2, a .2))
-  kept-Balance (Balance.lr h) a = (tt, (tt, a .1 .1, a .1 .2 .1), (tt, a .1 .2 .2, a .2))
-  kept-Balance (Balance.rl h) a = (tt, (tt, a .1, a .2 .1 .1), (tt, a .2 .1 .2, a .2 .2))
-  kept-Balance (Balance.rr h i) a = (tt, (tt, a .1, a .2 .1), (tt, a .2 .2 .1, a .2 .2 .2))
-  kept-Balance (Balance.calm h) a = a
-
-  kept-RemoveBalance : {t u : Tree} → RemoveBalance t u → AllKept P t → AllKept P u
-  kept-RemoveBalance RemoveBalance.both a = (tt, (tt, a .1 .1, a .1 .2), (tt, a .2 .1, a .2 .2))
-  kept-RemoveBalance (RemoveBalance.plain g) a = kept-Balance g a
-
-  kept-Left : {l r u : Tree} {e : Entry} → Left l e r u → AllKept P l → AllKept P r → AllKept P u
-  kept-Left Left.red-left a b = (tt, (tt, a .1, a .2), b)
-  kept-Left (Left.black-right h g) a b = kept-RemoveBalance g (tt, a, (tt, b .1, b .2))
-  kept-Left (Left.red-right {d = d} h g) a b = (tt, (tt, a, b .1 .1), kept-RemoveBalance g (tt, b .1 .2, kept-paint red d (b .2)))
-  kept-Left (Left.stuck h i) a b = (tt, a, b)
-
-  kept-Right : {l r u : Tree} {e : Entry} → Right l e r u → AllKept P l → AllKept P r → AllKept P u
-  kept-Right Right.red-right a b = (tt, a, (tt, b .1, b .2))
-  kept-Right (Right.black-left h g) a b = kept-RemoveBalance g (tt, (tt, a .1, a .2), b)
-  kept-Right (Right.red-left {d = d} h g) a b = (tt, kept-RemoveBalance g (tt, kept-paint red d (a .1), a .2 .1), (tt, a .2 .2, b))
-  kept-Right (Right.stuck h i) a b = (tt, a, b)
-
-  kept-Fuse : {l r u : Tree} → Fuse l r u → AllKept P l → AllKept P r → AllKept P u
-  kept-Fuse (Fuse.no-left {r = r}) a b = kept-copy r b
-  kept-Fuse Fuse.no-right a b = (tt, a .1, a .2)
-  kept-Fuse (Fuse.black-red g) a b = (tt, kept-Fuse g a (b .1), b .2)
-  kept-Fuse (Fuse.red-black g) a b = (tt, a .1, kept-Fuse g (a .2) b)
-  kept-Fuse (Fuse.middle g) a b = let f = kept-Fuse g (a .2) (b .1) in (tt, (tt, a .1, f .1), (tt, f .2, b .2))
-  kept-Fuse (Fuse.red-red h g) a b = (tt, a .1, (tt, kept-Fuse g (a .2) (b .1), b .2))
-  kept-Fuse (Fuse.black-black h g s) a b = kept-Left s (a .1) (tt, kept-Fuse g (a .2) (b .1), b .2)
-
-  kept-Del : {k : ℕ} {t u : Tree} → Del k t u → AllKept P t → AllKept P u
-  kept-Del Del.none a = tt
-  kept-Del (Del.here h g) a = kept-Fuse g (a .1) (a .2)
-  kept-Del (Del.left h b g) a = (tt, kept-Del g (a .1), a .2)
-  kept-Del (Del.left-black h g s) a = kept-Left s (kept-Del g (a .1)) (a .2)
-  kept-Del (Del.right h b g) a = (tt, a .1, kept-Del g (a .2))
-  kept-Del (Del.right-black h g s) a = kept-Right s (a .1) (kept-Del g (a .2))
-
-  kept-Settle : {b : Bool} {t u : Tree} → Settle b t u → AllKept P t → AllKept P u
-  kept-Settle still a = a
-  kept-Settle (turned g) a = kept-Balance g a
-
-  kept-Ins : {x : Entry} {b : Bool} {t u : Tree} → Ins x b t u → AllKept P t → AllKept P u
-  kept-Ins Ins.new a = (tt, tt, tt)
-  kept-Ins (Ins.here h) a = (tt, a .1, a .2)
-  kept-Ins (Ins.left h g s) a = kept-Settle s (tt, kept-Ins g (a .1), a .2)
-  kept-Ins (Ins.right h g s) a = kept-Settle s (tt, a .1, kept-Ins g (a .2))
-
-  pub kept-insert : (x : Entry) (t : Tree) → AllKept P t → AllKept P (insert x t)
-  unfolding insert
-  kept-insert x t a = kept-paint black (ins x t) (kept-Ins (inserted x t) a)
-
-  pub kept-remove : (k : ℕ) (t : Tree) → AllKept P t → AllKept P (remove k t)
-  unfolding remove
-  kept-remove k t a = fork (AllKept P) (has k t) (λ h. kept-paint black (del k t) (kept-Del (deleted k t) a)) (λ h. a)
+  parts-kept : (t : Tree) → AllParts AtNode t → AllKept P t
+  parts-kept leaf a = tt
+  parts-kept (node (kept i) c l e r) a = (a .0, parts-kept l (a .1), parts-kept r (a .2))
+  parts-kept (node fresh c l e r) a = (tt, parts-kept l (a .1), parts-kept r (a .2))
 
   pub kept-edit : (d : Edit) (t : Tree) → AllKept P t → AllKept P (edit d t)
-  kept-edit (setting x) t a = kept-insert x t a
-  kept-edit (cutting k) t a = kept-remove k t a
+  kept-edit d t a = parts-kept (edit d t) (parts-edit AtNode d t (kept-parts t a))

@@ -1,0 +1,4 @@
+pub mod Places
+pub mod Existing
+pub mod Model
+pub mod Rows

@@ -1,0 +1,137 @@
+-- Document 01, "Figures to hold": the starred ones, as rows of a single table under a single claim. `crates/call_cases` runs the others.
+use mathlib.Core.Path.{_≡_}
+use mathlib.Core.List.{List, [], _∷_}
+use mathlib.Core.Option.{none}
+use Prim.Native.Nat.{ℕ, _*_}
+use lib.ListN.{length}
+use Rattle.heights.specs.Height.{H}
+use Rattle.trees.specs.Tree.{Entry, black, kept, Tree, leaf, node}
+use Rattle.trees.specs.Range.{Bound, included, excluded, unbounded, End, front, back, Range, stepped}
+use Rattle.words.specs.Layout.{arenaWords}
+use Rattle.calls.specs.Refusal.{Refusal}
+use Rattle.calls.specs.Call.{Call, Answer}
+use Rattle.calls.specs.Version.{VersionIs}
+use Rattle.calls.specs.Outcome.{Outcome}
+
+-- The tree with the numbers of its nodes forgotten: shape, colours and entries.
+abbrev pub bare : Tree → Tree
+bare leaf = leaf
+bare (node p c l e r) = node (kept 0) c (bare l) e (bare r)
+
+-- A step of a run: the call answers so; or slot s holds a version that is this tree, bare.
+pub data Step : Type 0 where
+  asks : Call → Answer → Step
+  holds : (s : ℕ) → Tree → Step
+
+-- H at n is h; or these steps one after the other, on an arena formatted with n nodes and v slots.
+pub data Row : Type 0 where
+  height : (n h : ℕ) → Row
+  run : (n v : ℕ) → List Step → Row
+
+-- Each call has an outcome that answers so; and whatever outcome it has, it answers so, and the further steps hold of the words that it leaves.
+abbrev pub Runs : List ℕ → List Step → Type 0
+Runs ws [] = Unit {0}
+Runs ws (asks c a ∷ xs) = ((w : List ℕ) × Outcome c ws a w) × ((b : Answer) (w : List ℕ) → Outcome c ws b w → (b ≡ a) × Runs w xs)
+Runs ws (holds s t ∷ xs) = ((u : Tree) × VersionIs ws s u × (bare u ≡ t)) × Runs ws xs
+
+-- A run starts with an accepted format, whatever a slice of the right length held before.
+abbrev pub Claim : Row → Type 0
+Claim (height n h) = H n ≡ h
+Claim (run n v xs) = (old : List ℕ) → length old ≡ arenaWords n v → Runs old (asks (Call.format n v) Answer.done ∷ xs)
+
+abbrev pub All : (Row → Type 0) → List Row → Type 0
+All P [] = Unit {0}
+All P (r ∷ rs) = P r × All P rs
+
+-- The steps of which the table is made. The value that goes with the key k is 10 × k.
+abbrev e : ℕ → Entry
+e k = record { key = k; value = 10 * k }
+
+-- The empty version goes to slot 0; the version of slot s with the key k goes to slot q; m nodes are free; the call is refused.
+abbrev new : Step
+new = asks Call.new (Answer.slot 0)
+
+abbrev set : (s k q : ℕ) → Step
+set s k q = asks (Call.insert s (e k)) (Answer.slot q)
+
+abbrev free : ℕ → Step
+free m = asks Call.free-nodes (Answer.number m)
+
+abbrev noRoom : Call → Step
+noRoom c = asks c (Answer.refused Refusal.no-room)
+
+-- A walk's step on slot s, which gives the entry of the key k, END or BAD_RANGE.
+abbrev walk : (s : ℕ) → End → Range → Call
+walk s d w = Call.step d (record { slot = s; range = w })
+
+abbrev gives : Call → ℕ → Step
+gives c k = asks c (Answer.entry (e k))
+
+abbrev ends : Call → Step
+ends c = asks c (Answer.refused Refusal.ended)
+
+abbrev badRange : Call → Step
+badRange c = asks c (Answer.refused Refusal.bad-range)
+
+abbrev between : Bound → Bound → Range
+between a b = record { start = a; end = b; given-front = none; given-back = none }
+
+-- The whole range, and what the caller keeps after the front gave 1, and after the back gave 2.
+abbrev whole : Range
+whole = between unbounded unbounded
+
+abbrev given1 : Range
+given1 = stepped front whole (e 1)
+
+abbrev given12 : Range
+given12 = stepped back given1 (e 2)
+
+abbrev fives : Range
+fives = between (included 5) (included 5)
+
+-- The single entry 5 in slot 1, then these steps.
+abbrev onFive : List Step → Row
+onFive xs = run 10 32 (new ∷ set 0 5 1 ∷ xs)
+
+-- A black node.
+abbrev B : Tree → ℕ → Tree → Tree
+B l k r = node (kept 0) black l (e k) r
+
+-- "V is 32 where none is named." Where no N is named it is 10.
+abbrev pub table : List Row
+table =
+    -- "H at 0, 1, 2, 3, 6, 7, 2,047 is 0, 2, 2, 4, 4, 6, 22."
+    height 0 0 ∷
+    height 1 2 ∷
+    height 2 2 ∷
+    height 3 4 ∷
+    height 6 4 ∷
+    height 7 6 ∷
+    height 2047 22 ∷
+    -- "Insert 1, 2, 3 into an empty version: root 2, children 1 and 3, all black."
+    run 10 32 (new ∷ set 0 1 1 ∷ set 1 2 2 ∷ set 2 3 3 ∷ holds 3 (B (B leaf 1 leaf) 2 (B leaf 3 leaf)) ∷ []) ∷
+    -- "N = 10, the empty version and all three kept: 1 + 2 + 3 nodes taken, 4 free. Inserting 4 needs 5: NO_ROOM."
+    run 10 32 (new ∷ free 10 ∷ set 0 1 1 ∷ free 9 ∷ set 1 2 2 ∷ free 7 ∷ set 2 3 3 ∷ free 4 ∷ noRoom (Call.insert 3 (e 4)) ∷ []) ∷
+    -- "With N = 11 it is accepted, takes 3, leaves 2."
+    run 11 32 (new ∷ set 0 1 1 ∷ set 1 2 2 ∷ set 2 3 3 ∷ free 5 ∷ set 3 4 4 ∷ free 2 ∷ []) ∷
+    -- "N = 14, one entry: remove needs 14, 13 are free, NO_ROOM."
+    run 14 32 (new ∷ set 0 1 1 ∷ free 13 ∷ noRoom (Call.remove 1 1) ∷ []) ∷
+    -- "N = 15: accepted, the result is empty."
+    run 15 32 (new ∷ set 0 1 1 ∷ free 14 ∷ asks (Call.remove 1 1) (Answer.slot 2) ∷ holds 2 leaf ∷ asks (Call.size 2) (Answer.number 0) ∷ []) ∷
+    -- "Entries 1, 2: front gives 1, back gives 2, front gives END."
+    run 10 32 (new ∷ set 0 1 1 ∷ set 1 2 2 ∷ gives (walk 2 front whole) 1 ∷ gives (walk 2 back given1) 2 ∷ ends (walk 2 front given12) ∷ []) ∷
+    -- "On a version with the single entry 5, range from 5 included to 5 excluded: END at once."
+    onFive (ends (walk 1 front (between (included 5) (excluded 5))) ∷ []) ∷
+    onFive (ends (walk 1 back (between (included 5) (excluded 5))) ∷ []) ∷
+    -- "5 excluded to 5 excluded: BAD_RANGE."
+    onFive (badRange (walk 1 front (between (excluded 5) (excluded 5))) ∷ []) ∷
+    onFive (badRange (walk 1 back (between (excluded 5) (excluded 5))) ∷ []) ∷
+    -- "6 to 5: BAD_RANGE." Each included or excluded.
+    onFive (badRange (walk 1 front (between (included 6) (included 5))) ∷ []) ∷
+    onFive (badRange (walk 1 front (between (included 6) (excluded 5))) ∷ []) ∷
+    onFive (badRange (walk 1 front (between (excluded 6) (included 5))) ∷ []) ∷
+    onFive (badRange (walk 1 front (between (excluded 6) (excluded 5))) ∷ []) ∷
+    -- "5 included to 5 included: entry 5, then END."
+    onFive (gives (walk 1 front fives) 5 ∷ ends (walk 1 front (stepped front fives (e 5))) ∷ []) ∷
+    onFive (gives (walk 1 back fives) 5 ∷ ends (walk 1 back (stepped back fives (e 5))) ∷ []) ∷
+    []

@@ -1,0 +1,1 @@
+// No functions: the definitions stand in specs/, their laws in proofs/.
