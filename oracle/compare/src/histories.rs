@@ -1,13 +1,13 @@
 //! Long histories: calls on versions held, old ones as well as the newest.
 use crate::counts::Counts;
 use crate::edits;
-use crate::keys::Keys;
 use crate::lookups;
 use crate::orders;
 use crate::outcome::Outcome;
-use crate::random::Random;
 use crate::ranges;
 use crate::version::Version;
+use common::keys::Keys;
+use common::random::Random;
 use seen::Map;
 use steps::edit::Edit;
 use steps::tree::Entry;

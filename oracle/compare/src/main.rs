@@ -6,19 +6,17 @@ mod counts;
 mod edits;
 mod exhaustive;
 mod histories;
-mod keys;
 mod laws;
 mod lookups;
 mod orders;
 mod outcome;
-mod quiet;
-mod random;
 mod ranges;
 mod version;
 
+use common::quiet;
+use common::random::Random;
 use counts::Counts;
 use outcome::Outcome;
-use random::Random;
 use std::panic;
 use std::process::ExitCode;
 

@@ -1,9 +1,9 @@
 //! Two-ended ranges: rpds's iterator beside `next` on the listing and `step` on the tree.
 use crate::counts::Counts;
 use crate::outcome::{Outcome, same};
-use crate::quiet;
-use crate::random::Random;
 use crate::version::{Version, entry};
+use common::quiet;
+use common::random::Random;
 use std::ops;
 use steps::lookup::step;
 use steps::range::{Bound, End, Range, bad_range, next, remains, stepped};

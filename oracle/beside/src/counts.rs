@@ -1,0 +1,62 @@
+//! How much was compared.
+use crate::model::Model;
+use library::call::{Answer, Call, NAMES};
+use std::fmt::{self, Display, Formatter};
+
+#[derive(Clone, Default)]
+pub struct Counts {
+    /// Calls of histories, and their histories.
+    pub calls: u64,
+    pub histories: u64,
+    /// Accepted calls by kind, and refused ones by kind and number.
+    accepted: [u64; NAMES.len()],
+    refused: [[u64; 9]; NAMES.len()],
+    pub nodes: u64,
+    pub fresh: u64,
+    pub largest: usize,
+    pub walks: u64,
+    pub steps: u64,
+    pub bad_ranges: u64,
+    /// Calls after which no node was free, and after which every slot was held.
+    pub no_node_free: u64,
+    pub all_slots_held: u64,
+}
+
+impl Counts {
+    pub fn count(&mut self, call: Call, answer: Answer) {
+        match answer {
+            Answer::Refused(number) => self.refused[call.kind()][number.min(8) as usize] += 1,
+            _ => self.accepted[call.kind()] += 1,
+        }
+    }
+
+    pub fn fullest(&mut self, model: &Model) {
+        self.no_node_free += u64::from(model.free() == 0);
+        self.all_slots_held += u64::from(model.slots.iter().all(Option::is_some));
+    }
+
+    /// All calls on the library, those that only look included.
+    pub fn library_calls(&self) -> u64 {
+        self.accepted.iter().chain(self.refused.iter().flatten()).sum()
+    }
+}
+
+impl Display for Counts {
+    fn fmt(&self, f: &mut Formatter<'_>) -> fmt::Result {
+        let Counts { nodes, fresh, largest, walks, steps, bad_ranges, .. } = self;
+        writeln!(f, "{} calls on the library, those that look at what a call has done included", self.library_calls())?;
+        for (kind, name) in NAMES.iter().enumerate() {
+            write!(f, "    {name}: {} accepted", self.accepted[kind])?;
+            for (number, count) in self.refused[kind].iter().enumerate().filter(|(_, count)| **count > 0) {
+                write!(f, ", R {number} {count}")?;
+            }
+            writeln!(f)?;
+        }
+        writeln!(
+            f,
+            "{nodes} nodes of new versions compared, {fresh} of them fresh; the largest version has {largest}"
+        )?;
+        writeln!(f, "{walks} ranges walked by {steps} steps until both ends gave END, {bad_ranges} bad ranges")?;
+        writeln!(f, "{} calls left no node free, {} every slot held", self.no_node_free, self.all_slots_held)
+    }
+}

@@ -1,0 +1,117 @@
+//! Long histories of all seventeen calls, on arenas of every size, that fill the nodes and the slots and empty them again.
+use crate::choice::History;
+use crate::counts::Counts;
+use crate::pair::Pair;
+use common::keys::Keys;
+use common::random::Random;
+use library::Subject;
+use library::call::{Answer, Call};
+use library::outcome::{Outcome, same};
+use seen::Map;
+
+/// N, V, how many calls a history has, and how many entries it starts with.
+struct Plan {
+    n: u32,
+    v: u32,
+    calls: u64,
+    filled: usize,
+}
+
+const PLANS: [Plan; 18] = [
+    Plan { n: 1, v: 1, calls: 400, filled: 0 },
+    Plan { n: 1, v: 3, calls: 800, filled: 0 },
+    Plan { n: 2, v: 2, calls: 800, filled: 0 },
+    Plan { n: 5, v: 4, calls: 2000, filled: 0 },
+    Plan { n: 8, v: 3, calls: 2000, filled: 0 },
+    Plan { n: 15, v: 2, calls: 2000, filled: 0 },
+    Plan { n: 16, v: 8, calls: 2000, filled: 0 },
+    Plan { n: 31, v: 5, calls: 3000, filled: 0 },
+    Plan { n: 64, v: 32, calls: 3000, filled: 0 },
+    Plan { n: 120, v: 6, calls: 3000, filled: 0 },
+    Plan { n: 0, v: 0, calls: 3000, filled: 0 },
+    Plan { n: 255, v: 3, calls: 1500, filled: 0 },
+    Plan { n: 300, v: 32, calls: 800, filled: 200 },
+    Plan { n: 700, v: 16, calls: 300, filled: 600 },
+    Plan { n: 2047, v: 1, calls: 100, filled: 2020 },
+    Plan { n: 2047, v: 2, calls: 100, filled: 2020 },
+    Plan { n: 2047, v: 8, calls: 100, filled: 1900 },
+    Plan { n: 2047, v: 32, calls: 100, filled: 1700 },
+];
+
+/// Histories of every plan by every kind of keys, as long as there are calls left; each has a share of its plan's calls.
+pub fn run<S: Subject + Clone>(
+    subject: &S,
+    calls: u64,
+    share: u64,
+    random: &mut Random,
+    counts: &mut Counts,
+) -> Outcome {
+    let mut left = calls;
+    for keys in Keys::ALL.into_iter().cycle() {
+        for plan in &PLANS {
+            let length = (plan.calls / share).max(1).min(left);
+            go(subject.clone(), plan, keys, length, random, counts)?;
+            left -= length;
+            if left == 0 {
+                return Ok(());
+            }
+        }
+    }
+    unreachable!("the calls run out first")
+}
+
+fn go<S: Subject>(
+    subject: S,
+    plan: &Plan,
+    keys: Keys,
+    length: u64,
+    random: &mut Random,
+    counts: &mut Counts,
+) -> Outcome {
+    // The plan without a size is of any small one.
+    let (n, v) = match (plan.n, plan.v) {
+        (0, _) => (1 + random.below(120) as u32, 1 + random.below(32) as u32),
+        sizes => sizes,
+    };
+    let place = |calls: u64, message: String| format!("N {n}, V {v}, call {calls} of the history: {message}");
+    let mut pair = Pair::start(subject, n, v, random.word(), counts).map_err(|message| place(0, message))?;
+    let mut history = History::new(keys, n as usize, plan.filled > 0);
+    if plan.filled > 0 {
+        fill(&mut pair, plan.filled, &mut history, random, counts).map_err(|message| place(0, message))?;
+    }
+    for call in 1..=length {
+        history.call(&mut pair, random, counts).map_err(|message| place(call, message))?;
+    }
+    counts.histories += 1;
+    counts.calls += length;
+    Ok(())
+}
+
+/// Puts entries in by inserts and releases of which only the answers are compared; the version that they end with is compared whole.
+fn fill<S: Subject>(
+    pair: &mut Pair<S>,
+    entries: usize,
+    history: &mut History,
+    random: &mut Random,
+    counts: &mut Counts,
+) -> Outcome {
+    // With a single slot nothing can be put in.
+    let entries = if pair.model.v() == 1 { 0 } else { entries };
+    let (mut map, mut slot) = (Map::new(), 0);
+    ask(pair, Call::New, Answer::Word(slot), counts)?;
+    while map.size() < entries {
+        let (key, value) = (history.new_key(random), random.below(5) as u32);
+        map.insert_mut(key, value);
+        ask(pair, Call::Insert { s: slot, key, value }, Answer::Word(1 - slot), counts)?;
+        ask(pair, Call::Release { s: slot }, Answer::Done, counts)?;
+        slot = 1 - slot;
+    }
+    history.newest = slot;
+    pair.adopt(slot, map, counts)
+}
+
+fn ask<S: Subject>(pair: &mut Pair<S>, call: Call, expected: Answer, counts: &mut Counts) -> Outcome {
+    let found = pair.subject.call(&mut pair.lent, call);
+    counts.count(call, found);
+    same("answer while the arena is filled", expected, found)
+}

@@ -1,0 +1,36 @@
+//! How much was examined.
+use std::fmt::{self, Display, Formatter};
+
+#[derive(Default)]
+pub struct Counts {
+    pub arenas: u64,
+    pub sound: u64,
+    pub calls: u64,
+    pub refused_on_sound: u64,
+    pub written_on_sound: u64,
+    pub formatted: u64,
+    longest: usize,
+}
+
+impl Counts {
+    pub fn arena(&mut self, len: usize, sound: bool) {
+        self.arenas += 1;
+        self.sound += u64::from(sound);
+        self.longest = self.longest.max(len);
+    }
+}
+
+impl Display for Counts {
+    fn fmt(&self, f: &mut Formatter<'_>) -> fmt::Result {
+        let Counts { arenas, sound, calls, refused_on_sound, written_on_sound, formatted, longest } = self;
+        writeln!(f, "{arenas} arenas of up to {longest} words, {} of them unsound, {sound} sound", arenas - sound)?;
+        writeln!(
+            f,
+            "{calls} calls: on the unsound ones all gave UNSOUND and changed no word; on the sound ones {refused_on_sound}"
+        )?;
+        writeln!(
+            f,
+            "were refused and changed no word, {written_on_sound} wrote what they ought; {formatted} arenas formatted"
+        )
+    }
+}

@@ -1,0 +1,127 @@
+//! Faults put in on purpose: the checker without one of its demands, and a library that answers or writes wrongly. Each has to be found.
+use crate::counts::Counts;
+use crate::examine::Examiner;
+use crate::sweep::{self, Extent};
+use checker::Demand;
+use common::quiet;
+use common::random::Random;
+use library::call::{ABSENT, Answer, Call, NO_VERSION, UNSOUND};
+use library::layout::{HEAD, node_at};
+use library::lent::{Lent, arena_len};
+use library::outcome::Outcome;
+use library::{Library, Subject};
+
+/// What a fault makes of a call: the words after it, and the right answer; it gives the wrong one.
+type Spoil = fn(&mut Lent, Call, Answer) -> Answer;
+
+struct Faulty {
+    spoil: Spoil,
+}
+
+impl Subject for Faulty {
+    fn call(&mut self, lent: &mut Lent, call: Call) -> Answer {
+        let answer = Library.call(lent, call);
+        (self.spoil)(lent, call, answer)
+    }
+}
+
+const FAULTS: &[(&str, Spoil)] = &[
+    ("hold of a slot that cannot be is NO_VERSION before UNSOUND", |_, call, answer| match (call, answer) {
+        (Call::Hold { s }, Answer::Refused(UNSOUND)) if s > 32 => Answer::Refused(NO_VERSION),
+        _ => answer,
+    }),
+    ("get on an unsound arena is ABSENT", |_, call, answer| match (call, answer) {
+        (Call::Get { .. }, Answer::Refused(UNSOUND)) => Answer::Refused(ABSENT),
+        _ => answer,
+    }),
+    ("insert counts the refusals of unsound arenas in a spare word", |lent, call, answer| {
+        if matches!((call, answer), (Call::Insert { .. }, Answer::Refused(UNSOUND))) && lent.words().len() > 7 {
+            lent.words_mut()[7] = lent.words()[7].wrapping_add(1);
+        }
+        answer
+    }),
+    ("release on an unsound arena gives the slot up", |lent, call, answer| {
+        if let (Call::Release { .. }, Answer::Refused(UNSOUND)) = (call, answer)
+            && let Some(last) = lent.words_mut().last_mut()
+        {
+            *last = last.wrapping_add(1);
+        }
+        answer
+    }),
+    ("the test repairs the free list's head", |lent, call, answer| {
+        if let (Call::Sound, Answer::Word(0), [n, _, head, ..]) = (call, answer, lent.words())
+            && head > n
+        {
+            lent.words_mut()[HEAD] = 0;
+        }
+        answer
+    }),
+    ("the test says yes to a single word too many", |lent, call, answer| match (call, lent.words()) {
+        (Call::Sound, [n, v, ..]) if *n < 2048 && *v < 33 && lent.words().len() == arena_len(*n, *v) + 1 => {
+            Answer::Word(1)
+        }
+        _ => answer,
+    }),
+    ("the test says no where a value's highest bit is set", |lent, call, answer| match (call, answer) {
+        (Call::Sound, Answer::Word(1)) => Answer::Word(u32::from(lent.words()[node_at(1) + 1] >> 31 == 0)),
+        _ => answer,
+    }),
+    ("the test says no where a spare word is set", |lent, call, answer| match (call, answer) {
+        (Call::Sound, Answer::Word(1)) => Answer::Word(u32::from(lent.words()[4] == 0)),
+        _ => answer,
+    }),
+    ("a refused hold writes a spare word of a sound arena", |lent, call, answer| {
+        if matches!((call, answer), (Call::Hold { .. }, Answer::Refused(NO_VERSION))) {
+            lent.words_mut()[6] = lent.words()[6].wrapping_add(1);
+        }
+        answer
+    }),
+    ("format takes a length that is one too long", |lent, call, answer| match call {
+        Call::Format { n, v }
+            if (1..=2047).contains(&n) && lent.words().len() as u64 == 9 + 2 * u64::from(v) + 6 * u64::from(n) =>
+        {
+            Answer::Done
+        }
+        _ => answer,
+    }),
+    ("format forgets a free node", |lent, call, answer| {
+        if let (Call::Format { .. }, Answer::Done) = (call, answer) {
+            lent.words_mut()[HEAD] = if lent.words()[0] > 1 { 2 } else { 0 };
+        }
+        answer
+    }),
+];
+
+pub fn run(extent: &Extent, seed: u64) -> Outcome {
+    let mut missed = Vec::new();
+    for demand in Demand::ALL {
+        found(&format!("the checker without {demand:?}"), Library, Some(demand), extent, seed, &mut missed);
+    }
+    for (name, spoil) in FAULTS {
+        found(name, Faulty { spoil: *spoil }, None, extent, seed, &mut missed);
+    }
+    let put_in = Demand::ALL.len() + FAULTS.len();
+    println!("{put_in} faults put in, {} found", put_in - missed.len());
+    if missed.is_empty() { Ok(()) } else { Err(format!("not found: {missed:?}")) }
+}
+
+/// Runs until the fault is found, or names it as missed.
+fn found<S: Subject>(
+    name: &str,
+    subject: S,
+    left_out: Option<Demand>,
+    extent: &Extent,
+    seed: u64,
+    missed: &mut Vec<String>,
+) {
+    let mut examiner = Examiner { subject, left_out };
+    let (mut outcome, mut counts) = (Err(String::from("a panic")), Counts::default());
+    quiet::panics(|| outcome = sweep::run(&mut examiner, extent, &mut Random::new(seed), &mut counts));
+    match outcome {
+        Ok(()) => missed.push(String::from(name)),
+        Err(message) => {
+            let short: String = message.chars().take(160).collect();
+            println!("found after {} arenas: {name}: {short}", counts.arenas);
+        }
+    }
+}
