@@ -20,7 +20,7 @@ pub struct History {
     keys: Keys,
     /// The most entries that a version is meant to have.
     most: usize,
-    /// An arena that was filled on purpose is not formatted again.
+    /// An arena that was filled on purpose is not formatted again, and its largest version is used and kept.
     keep: bool,
     pub newest: u32,
     filling: bool,
@@ -69,22 +69,30 @@ impl History {
             return Call::New;
         }
         if held.len() > self.target && random.one_in(2) {
-            return Call::Release { s: self.old(&held, random) };
+            return Call::Release { s: self.old(model, random) };
         }
         match random.below(100) {
             0..=44 => self.edit(model, random),
             45..=50 => Call::Hold { s: self.slot(model, random) },
-            51..=53 => Call::New,
-            54..=61 => Call::Release { s: self.slot(model, random) },
+            51..=53 if !self.keep || random.one_in(4) => Call::New,
+            54..=61 if !self.keep => Call::Release { s: self.slot(model, random) },
+            54..=57 => Call::Release { s: self.old(model, random) },
             62 => self.format(model, random),
             _ => self.reading(model, random),
         }
     }
 
-    /// A slot that is held, most often not the newest.
-    fn old(&self, held: &[u32], random: &mut Random) -> u32 {
+    /// The slot that calls are made on most often: the newest version, or where the arena was filled the largest.
+    fn favourite(&self, model: &Model) -> u32 {
+        let largest = || model.held().into_iter().max_by_key(|s| model.map(*s).map(|map| map.size()));
+        if self.keep { largest().unwrap_or(0) } else { self.newest }
+    }
+
+    /// A slot that is held, most often not the favourite.
+    fn old(&self, model: &Model, random: &mut Random) -> u32 {
+        let held = model.held();
         let s = held[random.below(held.len())];
-        if s == self.newest && !random.one_in(8) { held[random.below(held.len())] } else { s }
+        if s == self.favourite(model) && !random.one_in(8) { held[random.below(held.len())] } else { s }
     }
 
     /// A slot that is held, now and then one that is not or cannot be.
@@ -93,7 +101,9 @@ impl History {
         if held.is_empty() || random.one_in(14) {
             return [random.below(model.slots.len()) as u32, model.v(), model.v() + 1, u32::MAX][random.below(4)];
         }
-        if held.contains(&self.newest) && random.one_in(2) { self.newest } else { held[random.below(held.len())] }
+        let favourite = self.favourite(model);
+        let other = held[random.below(held.len())];
+        if held.contains(&favourite) && !random.one_in(if self.keep { 4 } else { 2 }) { favourite } else { other }
     }
 
     fn edit(&mut self, model: &Model, random: &mut Random) -> Call {

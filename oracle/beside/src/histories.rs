@@ -17,7 +17,7 @@ struct Plan {
     filled: usize,
 }
 
-const PLANS: [Plan; 18] = [
+const PLANS: [Plan; 21] = [
     Plan { n: 1, v: 1, calls: 400, filled: 0 },
     Plan { n: 1, v: 3, calls: 800, filled: 0 },
     Plan { n: 2, v: 2, calls: 800, filled: 0 },
@@ -29,13 +29,16 @@ const PLANS: [Plan; 18] = [
     Plan { n: 64, v: 32, calls: 3000, filled: 0 },
     Plan { n: 120, v: 6, calls: 3000, filled: 0 },
     Plan { n: 0, v: 0, calls: 3000, filled: 0 },
+    Plan { n: 120, v: 32, calls: 2000, filled: 40 },
     Plan { n: 255, v: 3, calls: 1500, filled: 0 },
-    Plan { n: 300, v: 32, calls: 800, filled: 200 },
-    Plan { n: 700, v: 16, calls: 300, filled: 600 },
-    Plan { n: 2047, v: 1, calls: 100, filled: 2020 },
-    Plan { n: 2047, v: 2, calls: 100, filled: 2020 },
-    Plan { n: 2047, v: 8, calls: 100, filled: 1900 },
-    Plan { n: 2047, v: 32, calls: 100, filled: 1700 },
+    Plan { n: 255, v: 8, calls: 2000, filled: 130 },
+    Plan { n: 300, v: 32, calls: 1500, filled: 200 },
+    Plan { n: 700, v: 16, calls: 1000, filled: 500 },
+    Plan { n: 2047, v: 1, calls: 100, filled: 0 },
+    Plan { n: 2047, v: 2, calls: 300, filled: 2020 },
+    Plan { n: 2047, v: 3, calls: 300, filled: 1900 },
+    Plan { n: 2047, v: 8, calls: 300, filled: 1850 },
+    Plan { n: 2047, v: 32, calls: 300, filled: 1700 },
 ];
 
 /// Histories of every plan by every kind of keys, as long as there are calls left; each has a share of its plan's calls.
@@ -95,8 +98,6 @@ fn fill<S: Subject>(
     random: &mut Random,
     counts: &mut Counts,
 ) -> Outcome {
-    // With a single slot nothing can be put in.
-    let entries = if pair.model.v() == 1 { 0 } else { entries };
     let (mut map, mut slot) = (Map::new(), 0);
     ask(pair, Call::New, Answer::Word(slot), counts)?;
     while map.size() < entries {

@@ -10,6 +10,8 @@ pub struct Counts {
     pub written_on_sound: u64,
     pub formatted: u64,
     longest: usize,
+    /// How many arenas each part of the sweep had.
+    parts: Vec<(&'static str, u64)>,
 }
 
 impl Counts {
@@ -18,12 +20,20 @@ impl Counts {
         self.sound += u64::from(sound);
         self.longest = self.longest.max(len);
     }
+
+    /// Names the part that the arenas since the last one were of.
+    pub fn part(&mut self, name: &'static str) {
+        let before: u64 = self.parts.iter().map(|part| part.1).sum();
+        self.parts.push((name, self.arenas - before));
+    }
 }
 
 impl Display for Counts {
     fn fmt(&self, f: &mut Formatter<'_>) -> fmt::Result {
-        let Counts { arenas, sound, calls, refused_on_sound, written_on_sound, formatted, longest } = self;
+        let Counts { arenas, sound, calls, refused_on_sound, written_on_sound, formatted, longest, parts } = self;
         writeln!(f, "{arenas} arenas of up to {longest} words, {} of them unsound, {sound} sound", arenas - sound)?;
+        let parts: Vec<String> = parts.iter().map(|(name, arenas)| format!("{arenas} {name}")).collect();
+        writeln!(f, "    {}", parts.join(", "))?;
         writeln!(
             f,
             "{calls} calls: on the unsound ones all gave UNSOUND and changed no word; on the sound ones {refused_on_sound}"

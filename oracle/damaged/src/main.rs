@@ -37,7 +37,7 @@ const LONG: Extent = Extent {
         (255, 3, 500, 1),
         (2047, 3, 2500, 40),
     ],
-    damaged: 1_100_000,
+    damaged: 1_300_000,
     random: 200_000,
 };
 

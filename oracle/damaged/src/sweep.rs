@@ -45,12 +45,17 @@ pub fn run<S: Subject>(
     counts: &mut Counts,
 ) -> Outcome {
     shapes(examiner, random, counts)?;
+    counts.part("with N, V or length at and beyond the limits");
     for (n, v, calls, stride) in extent.flips {
         let words = bases::by_calls(*n, *v, *calls, random);
         flips(examiner, &words, *stride, random, counts)?;
     }
+    counts.part("with one bit flipped");
     damages(examiner, extent.damaged, random, counts)?;
-    (0..extent.random).try_for_each(|_| examiner.examine(&random_words(random), random, counts))
+    counts.part("damaged in the ways of damage.rs");
+    (0..extent.random).try_for_each(|_| examiner.examine(&random_words(random), random, counts))?;
+    counts.part("of random words");
+    Ok(())
 }
 
 /// Whole arenas with N and V inside and beyond their limits, and lengths that fit or do not.
