@@ -1,0 +1,74 @@
+-- What document 01's program reads and writes, as bytes.
+use Prim.Native.Nat.{ℕ, _+_, _≤_}
+use mathlib.Core.Path.{_≡_}
+use mathlib.Core.List.{List, [], _∷_, _++_}
+use lib.ListN.{length}
+use lib.Seq.{sets}
+use Rattle.lines.specs.Decimal.{largest, digits}
+use Rattle.lines.specs.declared.Command.{Command}
+use Rattle.lines.specs.declared.Line.{Line}
+use Rattle.lines.specs.declared.Reply.{Reply}
+
+-- The words, letter by letter.
+abbrev pub name : Command → List ℕ
+name Command.New = 110 ∷ 101 ∷ 119 ∷ []
+name (Command.Hold s) = 104 ∷ 111 ∷ 108 ∷ 100 ∷ []
+name (Command.Set s k v) = 115 ∷ 101 ∷ 116 ∷ []
+name (Command.Cut s k) = 99 ∷ 117 ∷ 116 ∷ []
+name (Command.Drop s) = 100 ∷ 114 ∷ 111 ∷ 112 ∷ []
+name (Command.Get s k) = 103 ∷ 101 ∷ 116 ∷ []
+name (Command.List s) = 108 ∷ 105 ∷ 115 ∷ 116 ∷ []
+
+-- "`new`, `hold S`, `set S K V`, `cut S K`, `drop S`, `get S K`, `list S`"
+abbrev pub numbers : Command → List ℕ
+numbers Command.New = []
+numbers (Command.Hold s) = s ∷ []
+numbers (Command.Set s k v) = s ∷ k ∷ v ∷ []
+numbers (Command.Cut s k) = s ∷ k ∷ []
+numbers (Command.Drop s) = s ∷ []
+numbers (Command.Get s k) = s ∷ k ∷ []
+numbers (Command.List s) = s ∷ []
+
+-- Each number after a single space.
+unfoldable pub spaced : List ℕ → List ℕ
+spaced [] = []
+spaced (n ∷ ns) = 32 ∷ digits n ++ spaced ns
+
+-- The line of a command, without its line end.
+abbrev pub text : Command → List ℕ
+text c = name c ++ spaced (numbers c)
+
+abbrev pub Within : List ℕ → Type 0
+Within [] = Unit {0}
+Within (n ∷ ns) = (n ≤ largest) × Within ns
+
+-- A line says a command exactly when it is the command's text and no number is above the largest; any other line is unknown.
+abbrev pub Said : List ℕ → Line → Type 0
+Said line (Line.Says c) = (line ≡ text c) × Within (numbers c)
+Said line Line.Unknown = (c : Command) → Within (numbers c) → line ≡ text c → ⊥
+
+pub record Reads (line : List ℕ) (r : Line) : Type 0 where
+  pub said : Said line r
+
+-- "the slot or value; `ok` for drop; `R`, a space and the number for a refusal; for list each `K V` on a line, then `end`; for any other line `?`"
+abbrev pub reply : Reply → List ℕ
+reply (Reply.Number n) = digits n ++ 10 ∷ []
+reply Reply.Done = 111 ∷ 107 ∷ 10 ∷ []
+reply (Reply.Refused n) = 82 ∷ 32 ∷ digits n ++ 10 ∷ []
+reply (Reply.Entry k v) = digits k ++ (32 ∷ digits v ++ 10 ∷ [])
+reply Reply.End = 101 ∷ 110 ∷ 100 ∷ 10 ∷ []
+reply Reply.Unknown = 63 ∷ 10 ∷ []
+
+-- The most bytes that an answer's line takes: two numbers of ten digits, a space and the line end.
+abbrev pub longest : ℕ
+longest = 22
+
+-- The bytes end within the buffer, from a place on.
+pub record HasRoom (out : List ℕ) (at : ℕ) (bytes : List ℕ) : Type 0 where
+  pub room : at + length bytes ≤ length out
+
+-- The bytes were stored from a place on, no other was, and `next` is the place after them, within the buffer.
+pub record Written (out : List ℕ) (at : ℕ) (bytes out' : List ℕ) (next : ℕ) : Type 0 where
+  pub stored : out' ≡ sets out at bytes
+  pub after : next ≡ at + length bytes
+  pub inside : next ≤ length out'
