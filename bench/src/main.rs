@@ -14,13 +14,34 @@ use std::process::ExitCode;
 static ALLOCATOR: bytes::Counting = bytes::Counting;
 
 const SIZES: [usize; 4] = [16, 128, 1024, 2000];
-const VERSIONS: [usize; 3] = [1, 3, 32];
 
 /// A removal from 2,000 entries needs 122 free nodes, and 47 are left: the last size is 1,900 for it.
 const MOST_FOR_REMOVAL: usize = 1900;
 
+/// How often everything is measured: the least times are taken, so that a while of other work on the machine does not show.
+const PASSES: usize = 4;
+
 /// A call's times by the sizes.
 pub type Row = (&'static str, Vec<Times>);
+
+/// What a table is of: its heading, its name in the plot, and its arenas by the number of entries.
+type Table = (&'static str, &'static str, fn(usize) -> Plan);
+
+const TABLES: [Table; 4] = [
+    ("N = 2,047 and V = 32, versions held: 1", "1 version", |entries| largest(entries, 1)),
+    ("N = 2,047 and V = 32, versions held: 3", "3 versions", |entries| largest(entries, 3)),
+    ("N = 2,047 and V = 32, versions held: 32", "32 versions", |entries| largest(entries, 32)),
+    ("Arenas cut to size, V = 4, versions held: 3", "cut to size", cut_to_size),
+];
+
+fn largest(entries: usize, versions: usize) -> Plan {
+    Plan { n: 2047, v: 32, entries, versions }
+}
+
+/// With room for a removal and some versions.
+fn cut_to_size(entries: usize) -> Plan {
+    Plan { n: (entries + 6 * height(entries) + 60).min(2047) as u32, v: 4, entries, versions: 3 }
+}
 
 fn main() -> ExitCode {
     let Some(file) = std::env::args().nth(1) else {
@@ -28,19 +49,20 @@ fn main() -> ExitCode {
         return ExitCode::FAILURE;
     };
     println!("## The soundness test\n");
-    soundness::table();
+    soundness::table(PASSES);
     println!("\n## Bytes\n");
     bytes::table(&SIZES);
-    let mut tables = Vec::new();
-    for versions in VERSIONS {
-        println!("\n## N = 2,047 and V = 32, versions held: {versions}\n");
-        tables.push(table(|entries| Plan { n: 2047, v: 32, entries, versions }));
+    let mut tables: Vec<Vec<Row>> = TABLES.iter().map(|table| measure(table.2)).collect();
+    for _ in 1..PASSES {
+        for (rows, table) in tables.iter_mut().zip(TABLES) {
+            rows.iter_mut().zip(measure(table.2)).for_each(|(row, again)| keep_least(&mut row.1, &again.1));
+        }
     }
-    println!("\n## Arenas cut to size, V = 4, versions held: 3\n");
-    let fitting =
-        |entries: usize| Plan { n: (entries + 6 * height(entries) + 60).min(2047) as u32, v: 4, entries, versions: 3 };
-    let cut = table(fitting);
-    let drawn = plot::draw(&SIZES, &[("1 version", &tables[0]), ("32 versions", &tables[2]), ("cut to size", &cut)]);
+    for (rows, table) in tables.iter().zip(TABLES) {
+        println!("\n## {}\n", table.0);
+        print(rows);
+    }
+    let drawn = plot::draw(&SIZES, &[0, 2, 3].map(|place| (TABLES[place].1, &tables[place])));
     match std::fs::write(&file, drawn) {
         Ok(()) => ExitCode::SUCCESS,
         Err(error) => {
@@ -50,20 +72,31 @@ fn main() -> ExitCode {
     }
 }
 
-/// Measures every call at every size, and prints a table.
-fn table(plan: impl Fn(usize) -> Plan) -> Vec<Row> {
+/// Every call at every size.
+fn measure(plan: fn(usize) -> Plan) -> Vec<Row> {
+    let row = |(name, measure): &(&'static str, calls::Measure)| {
+        let most = if *name == "remove" { MOST_FOR_REMOVAL } else { usize::MAX };
+        (*name, SIZES.iter().map(|size| measure(plan((*size).min(most)))).collect())
+    };
+    CALLS.iter().map(row).collect()
+}
+
+fn keep_least(times: &mut [Times], again: &[Times]) {
+    for (kept, other) in times.iter_mut().zip(again) {
+        kept.ours = kept.ours.min(other.ours);
+        kept.test = kept.test.min(other.test);
+        kept.rpds = kept.rpds.min(other.rpds);
+    }
+}
+
+fn print(rows: &[Row]) {
     let heads: Vec<String> = SIZES.iter().map(|size| format!("{size}: ours µs | test % | rpds µs")).collect();
     println!("| call | {} |", heads.join(" | "));
     println!("|---|{}", "---|".repeat(3 * SIZES.len()));
-    let mut rows = Vec::new();
-    for (name, measure) in CALLS {
-        let most = if *name == "remove" { MOST_FOR_REMOVAL } else { usize::MAX };
-        let times: Vec<Times> = SIZES.iter().map(|size| measure(plan((*size).min(most)))).collect();
+    for (name, times) in rows {
         let cells: Vec<String> = times.iter().map(cell).collect();
         println!("| {name} | {} |", cells.join(" | "));
-        rows.push((*name, times));
     }
-    rows
 }
 
 fn cell(times: &Times) -> String {

@@ -4,7 +4,7 @@ use std::sync::LazyLock;
 use std::time::{Duration, Instant};
 
 /// Rounds go on until this much time has gone by, but not fewer than the least and not more than the most.
-const ENOUGH: Duration = Duration::from_millis(400);
+const ENOUGH: Duration = Duration::from_millis(250);
 const LEAST_ROUNDS: usize = 11;
 const MOST_ROUNDS: usize = 400;
 
