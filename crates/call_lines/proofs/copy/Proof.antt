@@ -2,8 +2,8 @@ use borrow.Author.Needs.{needs}
 use Prim.Native.Nat.{_-_}
 use mathlib.Core.Path.{_≡_}
 use lib.ListN.{length}
-use Rattle.call_cases.proofs.lines.copy.Statement.{statement}
-use Rattle.call_cases.proofs.lines.copy.Tie as tie
+use Rattle.call_lines.proofs.copy.Statement.{statement}
+use Rattle.call_lines.proofs.copy.Tie as tie
 
 abbrev Inv-loop : tie.InvT-loop
 Inv-loop to₀ from k₀ to k = length to ≡ length to₀

@@ -1,8 +1,8 @@
 use borrow.Author.Needs.{needs}
 use Prim.Native.Nat.{_≤_, _-_}
 use lib.ListN.{length}
-use Rattle.call_cases.proofs.lines.same.Statement.{statement}
-use Rattle.call_cases.proofs.lines.same.Tie as tie
+use Rattle.call_lines.proofs.same.Statement.{statement}
+use Rattle.call_lines.proofs.same.Tie as tie
 
 abbrev Inv-loop : tie.InvT-loop
 Inv-loop a b k₀ k = length b ≤ length a
