@@ -16,8 +16,8 @@ use Rattle.reading.specs.declared.EntryAnswer.{EntryAnswer}
 use Rattle.versions.specs.Slots.{slotAnswer, doneAnswer}
 use Rattle.versions.specs.declared.SlotAnswer.{SlotAnswer}
 use Rattle.versions.specs.declared.DoneAnswer.{DoneAnswer}
-use Rattle.lines.specs.declared.Command.{Command}
-use Rattle.lines.specs.declared.Reply.{Reply}
+use Rattle.commands.specs.declared.Command.{Command}
+use Rattle.replies.specs.declared.Reply.{Reply}
 use Rattle.headers.specs.Answering.{walkFrom, callOf, RepliesTo, Replies}
 
 pub ends : (r : Refusal) (n : ℕ) → n ≡ refusalNumber r → n ≡ 8 → RepliesTo (Answer.refused (refusalOf r)) Reply.End

@@ -17,8 +17,8 @@ use Rattle.calls.specs.Call.{Call, Answer}
 use Rattle.calls.specs.Reading.{answerBy}
 use Rattle.calls.specs.Outcome.{Outcome}
 use Rattle.calls.proofs.Histories.{answer-accepts}
-use Rattle.lines.specs.Decimal.{largest}
-use Rattle.lines.specs.declared.Reply.{Reply}
+use Rattle.decimal.specs.Decimal.{largest}
+use Rattle.replies.specs.declared.Reply.{Reply}
 use Rattle.headers.specs.declared.Place.{Place}
 use Rattle.headers.specs.Answering.{walkFrom, refusalReply, replyOf, Small, Replies}
 use Rattle.headers.specs.Places.{Waits}

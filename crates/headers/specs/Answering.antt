@@ -9,9 +9,9 @@ use Rattle.trees.specs.Range.{unbounded, front}
 use Rattle.calls.specs.Refusal.{Refusal, number}
 use Rattle.calls.specs.Call.{Walk, Call, Answer}
 use Rattle.calls.specs.Outcome.{Outcome}
-use Rattle.lines.specs.Decimal.{largest}
-use Rattle.lines.specs.declared.Command.{Command}
-use Rattle.lines.specs.declared.Reply.{Reply}
+use Rattle.decimal.specs.Decimal.{largest}
+use Rattle.commands.specs.declared.Command.{Command}
+use Rattle.replies.specs.declared.Reply.{Reply}
 
 -- A walk from no bounds that has given the entries up to a last key, if any.
 abbrev pub walkFrom : ℕ → Option ℕ → Walk

@@ -3,7 +3,7 @@ use mathlib.Core.Path.{_≡_}
 use mathlib.Core.List.{List}
 use Prim.Native.Nat.{ℕ, _≤_}
 use lib.ListN.{length}
-use Rattle.lines.specs.Text.{longest}
+use Rattle.replies.specs.Text.{longest}
 use Rattle.headers.specs.declared.Place.{Place}
 
 -- The answers that wait lie in the buffer, which has room for any one answer.

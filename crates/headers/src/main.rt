@@ -1,14 +1,11 @@
 // Document 01's program: reads commands from standard input, one to a line, and writes the answers to standard output.
 use arena::Entry;
+use commands::Command;
+use commands::Line;
+use commands::parse;
 use libc::STDERR_FILENO;
 use libc::STDIN_FILENO;
 use libc::STDOUT_FILENO;
-use lines::Command;
-use lines::LONGEST;
-use lines::Line;
-use lines::Reply;
-use lines::parse;
-use lines::put_reply;
 use ranges::Bound;
 use ranges::LastKey;
 use ranges::Range;
@@ -24,6 +21,9 @@ use red_black_tree_map::new_version;
 use red_black_tree_map::release;
 use red_black_tree_map::remove;
 use red_black_tree_map::step_front;
+use replies::LONGEST;
+use replies::Reply;
+use replies::put_reply;
 use versions::DoneAnswer;
 use versions::SlotAnswer;
 ghost use mathlib.Core.Path.{_≡_};
@@ -35,7 +35,7 @@ ghost use Rattle.arena.specs.Nodes.{entryOf};
 ghost use Rattle.ranges.specs.Ranges.{lastOf};
 ghost use Rattle.reading.specs.Answers.{refusalOf, valueAnswer, entryAnswer};
 ghost use Rattle.versions.specs.Slots.{slotAnswer, doneAnswer};
-ghost use Rattle.lines.specs.Text.{longest};
+ghost use Rattle.replies.specs.Text.{longest};
 ghost use Rattle.headers.specs.Answering.{walkFrom, callOf, Small, RepliesTo, Replies};
 ghost use Rattle.headers.specs.Places.{Waits, Flushed, Ready};
 

@@ -1,0 +1,4 @@
+pub mod Digits
+pub mod Finding
+pub mod Numbers
+pub mod Writing

@@ -1,6 +1,0 @@
-use Rattle.lines.proofs.Fields.{digit-low, digit-high}
-use Rattle.lines.proofs.is_digit.Statement.{statement}
-use Rattle.lines.proofs.is_digit.Tie as tie
-
-pub is-digit-spec : {M : Type 1} → statement M
-is-digit-spec = tie.close (tie.spec (λ c. search digit-low) (λ c. search digit-high))

@@ -1,8 +1,0 @@
-use borrow.Author.Needs.{needs}
-use Rattle.lines.proofs.Says.{cut-said}
-use Rattle.lines.proofs.says_cut.Statement.{statement}
-use Rattle.lines.proofs.says_cut.Tie as tie
-
-pub says-cut-spec : {M : Type 1} → statement M
-says-cut-spec =
-    tie.close (tie.spec (λ c. search needs) (λ c. search needs) (λ c. search cut-said) (λ c. search needs))

@@ -1,8 +1,0 @@
-use borrow.Author.Needs.{needs}
-use Rattle.lines.proofs.Says.{get-said}
-use Rattle.lines.proofs.says_get.Statement.{statement}
-use Rattle.lines.proofs.says_get.Tie as tie
-
-pub says-get-spec : {M : Type 1} → statement M
-says-get-spec =
-    tie.close (tie.spec (λ c. search needs) (λ c. search needs) (λ c. search get-said) (λ c. search needs))

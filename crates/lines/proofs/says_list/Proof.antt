@@ -1,8 +1,0 @@
-use borrow.Author.Needs.{needs}
-use Rattle.lines.proofs.Says.{list-said}
-use Rattle.lines.proofs.says_list.Statement.{statement}
-use Rattle.lines.proofs.says_list.Tie as tie
-
-pub says-list-spec : {M : Type 1} → statement M
-says-list-spec =
-    tie.close (tie.spec (λ c. search needs) (λ c. search needs) (λ c. search list-said) (λ c. search needs))

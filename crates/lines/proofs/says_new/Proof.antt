@@ -1,6 +1,0 @@
-use Rattle.lines.proofs.Says.{new-longer, new-said}
-use Rattle.lines.proofs.says_new.Statement.{statement}
-use Rattle.lines.proofs.says_new.Tie as tie
-
-pub says-new-spec : {M : Type 1} → statement M
-says-new-spec = tie.close (tie.spec (λ c. search new-longer) (λ c. search new-said))
