@@ -19,8 +19,8 @@ use Rattle.calls.specs.Outcome.{Outcome}
 use Rattle.calls.proofs.Histories.{answer-accepts}
 use Rattle.decimal.specs.Decimal.{largest}
 use Rattle.replies.specs.declared.Reply.{Reply}
+use Rattle.answering.specs.Answering.{walkFrom, refusalReply, replyOf, Small, Replies}
 use Rattle.headers.specs.declared.Place.{Place}
-use Rattle.headers.specs.Answering.{walkFrom, refusalReply, replyOf, Small, Replies}
 use Rattle.headers.specs.Places.{Waits}
 
 impossible : _≡_ {A = ℕ} 0 1 → ⊥

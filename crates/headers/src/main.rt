@@ -1,42 +1,22 @@
 // Document 01's program: reads commands from standard input, one to a line, and writes the answers to standard output.
-use arena::Entry;
+use answering::answer;
+use answering::listed;
 use commands::Command;
 use commands::Line;
 use commands::parse;
 use libc::STDERR_FILENO;
 use libc::STDIN_FILENO;
 use libc::STDOUT_FILENO;
-use ranges::Bound;
 use ranges::LastKey;
-use ranges::Range;
-use reading::EntryAnswer;
-use reading::Refusal;
-use reading::ValueAnswer;
-use reading::Walk;
 use red_black_tree_map::format;
-use red_black_tree_map::get;
-use red_black_tree_map::hold;
-use red_black_tree_map::insert;
-use red_black_tree_map::new_version;
-use red_black_tree_map::release;
-use red_black_tree_map::remove;
-use red_black_tree_map::step_front;
 use replies::LONGEST;
 use replies::Reply;
 use replies::put_reply;
-use versions::DoneAnswer;
-use versions::SlotAnswer;
 ghost use mathlib.Core.Path.{_≡_};
 ghost use Prim.Native.Nat.{_+_, _≤_};
 ghost use lib.ListN.{length};
-ghost use Rattle.trees.specs.Range.{front as atFront};
-ghost use Rattle.calls.specs.Call.{Call, Answer};
-ghost use Rattle.arena.specs.Nodes.{entryOf};
-ghost use Rattle.ranges.specs.Ranges.{lastOf};
-ghost use Rattle.reading.specs.Answers.{refusalOf, valueAnswer, entryAnswer};
-ghost use Rattle.versions.specs.Slots.{slotAnswer, doneAnswer};
 ghost use Rattle.replies.specs.Text.{longest};
-ghost use Rattle.headers.specs.Answering.{walkFrom, callOf, Small, RepliesTo, Replies};
+ghost use Rattle.answering.specs.Answering.{Small};
 ghost use Rattle.headers.specs.Places.{Waits, Flushed, Ready};
 
 const NODES: u32 = 2047;
@@ -52,96 +32,12 @@ const LINE_ROOM: usize = 64;
 
 const OUT_ROOM: usize = 65536;
 
-// The page's number of END.
-const END: u32 = 8;
-
 // How many bytes of the current line are kept, how many bytes of answers wait, whether the input has ended and whether a write failed.
 struct Place {
     kept: usize,
     waiting: usize,
     ended: bool,
     failed: bool,
-}
-
-fn refusal_reply(r: Refusal) -> Reply
-    ensures { λ x. ⌜ RepliesTo (Answer.refused (refusalOf r)) x ⌝ }
-{
-    let n = reading::number(r);
-    if n == END {
-        return Reply::End;
-    }
-    Reply::Refused(n)
-}
-
-fn slot_reply(a: SlotAnswer) -> Reply
-    ensures { λ r. ⌜ RepliesTo (slotAnswer a) r ⌝ }
-{
-    match a {
-        SlotAnswer::Slot(s) => Reply::Number(s),
-        SlotAnswer::Refused(r) => refusal_reply(r),
-    }
-}
-
-fn done_reply(a: DoneAnswer) -> Reply
-    ensures { λ r. ⌜ RepliesTo (doneAnswer a) r ⌝ }
-{
-    match a {
-        DoneAnswer::Done => Reply::Done,
-        DoneAnswer::Refused(r) => refusal_reply(r),
-    }
-}
-
-fn value_reply(a: ValueAnswer) -> Reply
-    ensures { λ r. ⌜ RepliesTo (valueAnswer a) r ⌝ }
-{
-    match a {
-        ValueAnswer::Value(v) => Reply::Number(v),
-        ValueAnswer::Refused(r) => refusal_reply(r),
-    }
-}
-
-// The line of an entry.
-fn entry_line(e: Entry) -> Reply
-    ensures { λ r. ⌜ RepliesTo (Answer.entry (entryOf e)) r ⌝ }
-{
-    Reply::Entry(e.key, e.value)
-}
-
-fn entry_reply(a: EntryAnswer) -> Reply
-    ensures { λ r. ⌜ RepliesTo (entryAnswer a) r ⌝ }
-{
-    match a {
-        EntryAnswer::Entry(e) => entry_line(e),
-        EntryAnswer::Refused(r) => refusal_reply(r),
-    }
-}
-
-// The next line of a listing that has come so far.
-fn listed(ws: &[u32], slot: u32, front: LastKey) -> Reply
-    ensures { λ r. ⌜ Replies (Call.step atFront (walkFrom slot (lastOf front))) (now (ws .entry)) r (now (ws .entry)) ⌝ }
-{
-    let range = Range {
-        start: Bound::Unbounded,
-        end: Bound::Unbounded,
-        front,
-        back: LastKey::NotGiven,
-    };
-    entry_reply(step_front(ws, Walk { slot, range }))
-}
-
-// Makes the command's call. A listing's first line is the answer to its first step.
-fn answer(ws: &mut [u32], c: Command) -> Reply
-    ensures { λ r. ⌜ Replies (callOf c) (now (ws .entry)) r (now (ws .exit)) ⌝ }
-{
-    match c {
-        Command::New => slot_reply(new_version(ws)),
-        Command::Hold(s) => slot_reply(hold(ws, s)),
-        Command::Set(s, key, value) => slot_reply(insert(ws, s, Entry { key, value })),
-        Command::Cut(s, key) => slot_reply(remove(ws, s, key)),
-        Command::Drop(s) => done_reply(release(ws, s)),
-        Command::Get(s, key) => value_reply(get(ws, s, key)),
-        Command::List(s) => listed(ws, s, LastKey::NotGiven),
-    }
 }
 
 // Writes the answers that wait; after a failed write, none.

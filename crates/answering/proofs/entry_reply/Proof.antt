@@ -1,7 +1,7 @@
 use borrow.Author.Needs.{needs}
-use Rattle.headers.proofs.Answered.{entry-given, entry-refused}
-use Rattle.headers.proofs.entry_reply.Statement.{statement}
-use Rattle.headers.proofs.entry_reply.Tie as tie
+use Rattle.answering.proofs.Answered.{entry-given, entry-refused}
+use Rattle.answering.proofs.entry_reply.Statement.{statement}
+use Rattle.answering.proofs.entry_reply.Tie as tie
 
 pub entry-reply-spec : {M : Type 1} → statement M
 entry-reply-spec =

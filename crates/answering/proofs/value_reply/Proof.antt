@@ -1,7 +1,7 @@
 use borrow.Author.Needs.{needs}
-use Rattle.headers.proofs.Answered.{value-given, value-refused}
-use Rattle.headers.proofs.value_reply.Statement.{statement}
-use Rattle.headers.proofs.value_reply.Tie as tie
+use Rattle.answering.proofs.Answered.{value-given, value-refused}
+use Rattle.answering.proofs.value_reply.Statement.{statement}
+use Rattle.answering.proofs.value_reply.Tie as tie
 
 pub value-reply-spec : {M : Type 1} → statement M
 value-reply-spec =

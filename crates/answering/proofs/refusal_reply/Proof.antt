@@ -1,7 +1,7 @@
 use borrow.Author.Needs.{needs}
-use Rattle.headers.proofs.Answered.{ends, refuses}
-use Rattle.headers.proofs.refusal_reply.Statement.{statement}
-use Rattle.headers.proofs.refusal_reply.Tie as tie
+use Rattle.answering.proofs.Answered.{ends, refuses}
+use Rattle.answering.proofs.refusal_reply.Statement.{statement}
+use Rattle.answering.proofs.refusal_reply.Tie as tie
 
 pub refusal-reply-spec : {M : Type 1} → statement M
 refusal-reply-spec =

@@ -1,7 +1,7 @@
 use borrow.Author.Needs.{needs}
-use Rattle.headers.proofs.Answered.{new-replied, hold-replied, set-replied, cut-replied, drop-replied, get-replied, list-replied}
-use Rattle.headers.proofs.answer.Statement.{statement}
-use Rattle.headers.proofs.answer.Tie as tie
+use Rattle.answering.proofs.Answered.{new-replied, hold-replied, set-replied, cut-replied, drop-replied, get-replied, list-replied}
+use Rattle.answering.proofs.answer.Statement.{statement}
+use Rattle.answering.proofs.answer.Tie as tie
 
 pub answer-spec : {M : Type 1} → statement M
 answer-spec =

@@ -18,7 +18,7 @@ use Rattle.versions.specs.declared.SlotAnswer.{SlotAnswer}
 use Rattle.versions.specs.declared.DoneAnswer.{DoneAnswer}
 use Rattle.commands.specs.declared.Command.{Command}
 use Rattle.replies.specs.declared.Reply.{Reply}
-use Rattle.headers.specs.Answering.{walkFrom, callOf, RepliesTo, Replies}
+use Rattle.answering.specs.Answering.{walkFrom, callOf, RepliesTo, Replies}
 
 pub ends : (r : Refusal) (n : ℕ) → n ≡ refusalNumber r → n ≡ 8 → RepliesTo (Answer.refused (refusalOf r)) Reply.End
 ends r n e h = record { reply = rw (eq-eqb (refusalNumber r) 8 (sym e ∙ h)); small = tt }

@@ -1,7 +1,7 @@
 use borrow.Author.Needs.{needs}
-use Rattle.headers.proofs.Answered.{slot-given, slot-refused}
-use Rattle.headers.proofs.slot_reply.Statement.{statement}
-use Rattle.headers.proofs.slot_reply.Tie as tie
+use Rattle.answering.proofs.Answered.{slot-given, slot-refused}
+use Rattle.answering.proofs.slot_reply.Statement.{statement}
+use Rattle.answering.proofs.slot_reply.Tie as tie
 
 pub slot-reply-spec : {M : Type 1} → statement M
 slot-reply-spec =

@@ -1,7 +1,7 @@
 use borrow.Author.Needs.{needs}
-use Rattle.headers.proofs.Answered.{done-refused}
-use Rattle.headers.proofs.done_reply.Statement.{statement}
-use Rattle.headers.proofs.done_reply.Tie as tie
+use Rattle.answering.proofs.Answered.{done-refused}
+use Rattle.answering.proofs.done_reply.Statement.{statement}
+use Rattle.answering.proofs.done_reply.Tie as tie
 
 pub done-reply-spec : {M : Type 1} → statement M
 done-reply-spec =
