@@ -11,9 +11,9 @@ use Rattle.words.specs.Owned.{Live}
 use Rattle.words.specs.Model.{raising}
 use Rattle.words.specs.Commit.{frontier, raisingAll}
 use Rattle.words.proofs.Countups.{all-kept, raising-all}
-use Rattle.arena.specs.Nodes as nodes
 use Rattle.arena.specs.declared.Node.{Node}
-use Rattle.arena.proofs.Raised.{owned-raisable}
+use Rattle.nodes.specs.Contracts as nodes
+use Rattle.nodes.proofs.Raised.{owned-raisable}
 use Rattle.plan.specs.Scratch.{PlanInside, IsPlanned}
 use Rattle.commit.specs.Planned.{spotOf, Plans, Raisable, Raises}
 use Rattle.commit.proofs.Parts.{at-low, at-fresh, plan-inside, plan-high}

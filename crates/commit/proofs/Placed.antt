@@ -10,9 +10,9 @@ use Rattle.words.proofs.Countups.{Shares}
 use Rattle.words.proofs.Recounting.{owned-long}
 use Rattle.words.proofs.Making.{head-in}
 use Rattle.words.proofs.Committing as commit
-use Rattle.arena.specs.Nodes as nodes
-use Rattle.arena.specs.Nodes.{Makable, Made}
 use Rattle.arena.specs.declared.Node.{Node}
+use Rattle.nodes.specs.Contracts as nodes
+use Rattle.nodes.specs.Contracts.{Makable, Made}
 use Rattle.plan.specs.Scratch.{PlanInside, IsPlanned}
 use Rattle.commit.specs.Planned.{spotOf, Buildable, Builds}
 use Rattle.commit.proofs.Parts.{Parts, at-low, at-fresh, plan-inside, plan-high}

@@ -9,7 +9,7 @@ use Rattle.words.specs.Layout.{code}
 use Rattle.words.specs.Owned.{Live, Owned, idles}
 use Rattle.words.specs.Commit.{frontier, raisingAll, building}
 use Rattle.words.proofs.Countups.{Shares}
-use Rattle.arena.specs.Nodes.{Any}
+use Rattle.nodes.specs.Contracts.{Any}
 use Rattle.plan.specs.Scratch.{planEntry, planLeft, planRight, planColor, PlanInside}
 
 -- The node of the plan that a link above those of the n nodes names.

@@ -1,6 +1,6 @@
 // The commit of a planned tree: its fresh nodes are counted, the kept nodes that it names are counted up, and the fresh ones are made bottom up.
-use arena::count_up;
-use arena::make_node;
+use nodes::count_up;
+use nodes::make_node;
 use plan::planned;
 ghost use Rattle.commit.specs.Planned.{Countable, Counts, Raisable, Raises, Buildable, Builds};
 

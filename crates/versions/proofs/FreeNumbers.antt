@@ -14,7 +14,7 @@ use Rattle.words.proofs.Recounting.{idles-few}
 use Rattle.words.proofs.Releasing.{Released, releasing-released}
 use Rattle.words.proofs.Slotting.{slotting-in, slot-idles, slot-header}
 use Rattle.words.proofs.FreeNumber.{sound-idles}
-use Rattle.arena.specs.Nodes.{Any, Holds, Releases}
+use Rattle.nodes.specs.Contracts.{Any, Holds, Releases}
 use Rattle.versions.specs.Free.{FreeIs}
 
 -- a nodes were taken and b were freed.

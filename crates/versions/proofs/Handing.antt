@@ -17,8 +17,9 @@ use Rattle.words.proofs.Recounting.{raising-outside, raising-idles}
 use Rattle.words.proofs.Slotting.{slotting-in, slot-reads, take-owned}
 use Rattle.words.proofs.SoundOwned.{sound-owned}
 use Rattle.words.proofs.Bounds.{version-low}
-use Rattle.arena.specs.Nodes as nodes
-use Rattle.arena.proofs.Raised.{owned-raisable, owned-any}
+use Rattle.arena.specs.Nodes.{SlotInside}
+use Rattle.nodes.specs.Contracts as nodes
+use Rattle.nodes.proofs.Raised.{owned-raisable, owned-any}
 use Rattle.calls.specs.Refusal as calls
 use Rattle.calls.specs.Call as call
 use Rattle.calls.specs.Version.{Lowest}
@@ -47,7 +48,7 @@ module _ {ws : List ℕ} {o : FreeSlot} (S : Sound ws) (l : LowestIs ws o) where
     lowest : Lowest ws q
     lowest = subst (LowestAt ws) f (l .is)
 
-    pub new-inside : nodes.SlotInside n ws q
+    pub new-inside : SlotInside n ws q
     new-inside = omega (arith, S .trees .limits .long-is, lowest .below)
 
     pub new-told : {w : List ℕ} → w ≡ slotting n ws q 0 0 → Outcome call.Call.new ws (call.Answer.slot q) w
@@ -82,7 +83,7 @@ module _ {ws : List ℕ} {p : Parent} (k : Parents ws p) where
       subst (λ (i : ℕ). (i ≡ 0) ⊎ Live (nodes ws) ws i) (sym (k .of .root-is)) (version-root S (version-of S (k .slot) (k .of .held)))
 
   module _ {n : ℕ} {w : List ℕ} (e : n ≡ nodes ws) (r : w ≡ raising ws (p .root)) where
-    pub share-inside : nodes.SlotInside n w (p .out)
+    pub share-inside : SlotInside n w (p .out)
     share-inside = rw r (omega (arith, raised .long, k .sound .trees .limits .long-is, k .of .lowest .below))
 
     pub share-is : {w' : List ℕ} → w' ≡ slotting n w (p .out) (p .root) (p .size) → w' ≡ slotting (nodes ws) (raising ws (p .root)) (p .out) (p .root) (p .size)

@@ -1,12 +1,12 @@
 // The versions: new, hold and release, on a sound arena, and the tests of the calls that hand out a slot. Each takes the free number and gives it back.
 use arena::MAX_HEIGHT;
 use arena::NOT_HELD;
-use arena::count_up;
 use arena::nodes_of;
 use arena::put_slot;
 use arena::slot_root;
 use arena::slot_size;
 use arena::slots_of;
+use nodes::count_up;
 use reading::Entered;
 use reading::Refusal;
 use reading::enter;
@@ -165,7 +165,7 @@ pub fn release(ws: &mut [u32], s: u32, free: u32) -> GivenUp
         Entered::Root(i) => {
             let n = nodes_of(ws);
             put_slot(ws, n, s, NOT_HELD, 0);
-            let freed = arena::release(ws, i, MAX_HEIGHT);
+            let freed = nodes::release(ws, i, MAX_HEIGHT);
             let all = free + freed;
             GivenUp {
                 answer: DoneAnswer::Done,

@@ -15,7 +15,7 @@ use Rattle.words.proofs.Committing.{shares-kept, Commits, commits}
 use Rattle.words.proofs.SoundOwned.{sound-owned}
 use Rattle.words.proofs.Recounting.{idles-few}
 use Rattle.arena.specs.Nodes.{SlotInside}
-use Rattle.arena.proofs.Raised.{owned-any}
+use Rattle.nodes.proofs.Raised.{owned-any}
 use Rattle.plan.specs.Held.{Holds}
 use Rattle.plan.proofs.Holdings.{unique}
 use Rattle.commit.specs.Planned as commit

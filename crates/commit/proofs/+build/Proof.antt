@@ -8,7 +8,7 @@ use borrow.Fn.PlainCycle.{Measures, is, falls, and}
 use Rattle.commit.proofs.build.Reads as build
 use Rattle.commit.proofs.build.Kinds as build-kinds
 use Rattle.commit.proofs.+build.Lts-build as build-lts
-use Rattle.arena.proofs.make_node.Reads as make-node-reads
+use Rattle.nodes.proofs.make_node.Reads as make-node-reads
 use Rattle.plan.proofs.planned.Reads as planned-reads
 use Rattle.commit.proofs.+build.{statement}
 use Rattle.commit.proofs.+build.Tie.{close}

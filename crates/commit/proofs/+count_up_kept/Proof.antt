@@ -7,7 +7,7 @@ use borrow.Fn.PlainCycle.{Measures, is, falls, and}
 use Rattle.commit.proofs.count_up_kept.Reads as count-up-kept
 use Rattle.commit.proofs.count_up_kept.Kinds as count-up-kept-kinds
 use Rattle.commit.proofs.+count_up_kept.Lts-count_up_kept as count-up-kept-lts
-use Rattle.arena.proofs.count_up.Reads as count-up-reads
+use Rattle.nodes.proofs.count_up.Reads as count-up-reads
 use Rattle.plan.proofs.planned.Reads as planned-reads
 use Rattle.commit.proofs.+count_up_kept.{statement}
 use Rattle.commit.proofs.+count_up_kept.Tie.{close}

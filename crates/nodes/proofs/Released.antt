@@ -12,7 +12,8 @@ use Rattle.words.specs.Model.{withCount, freeing, releasing, freed}
 use Rattle.words.proofs.Counts.{occ-first}
 use Rattle.words.proofs.Recounting.{owned-long, idles-few}
 use Rattle.words.proofs.Releasing.{releasing-none, freed-none, releasing-more, freed-more, releasing-last, freed-last, released-free, in-turn, kept-pending, releasing-released}
-use Rattle.arena.specs.Nodes.{NodeInside, Any, Holds, Releases}
+use Rattle.arena.specs.Nodes.{NodeInside}
+use Rattle.nodes.specs.Contracts.{Any, Holds, Releases}
 
 -- The model at a node, where a name is left and where none is.
 more-released : (h : ℕ) (ws : List ℕ) (i : ℕ) → 1 ≤ h → 1 ≤ i → 1 < count ws i → Releases h ws (withCount ws i (count ws i - 1)) i 0

@@ -1,9 +1,9 @@
 use borrow.Author.Needs.{needs}
 use native.Mathlib.Omega.{arith}
 use Rattle.words.specs.Layout.{count}
-use Rattle.arena.proofs.Raised.{raised-none, raised-node}
-use Rattle.arena.proofs.count_up.Statement.{statement}
-use Rattle.arena.proofs.count_up.Tie as tie
+use Rattle.nodes.proofs.Raised.{raised-none, raised-node}
+use Rattle.nodes.proofs.count_up.Statement.{statement}
+use Rattle.nodes.proofs.count_up.Tie as tie
 
 add-set-count : tie.Need-add-set-count
 unfolding count

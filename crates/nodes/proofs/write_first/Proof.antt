@@ -1,9 +1,9 @@
 use borrow.Author.Needs.{needs}
 use lib.ListN.{length-set}
 use native.Mathlib.Omega.{arith}
-use Rattle.arena.proofs.Raised.{written-is}
-use Rattle.arena.proofs.write_first.Statement.{statement}
-use Rattle.arena.proofs.write_first.Tie as tie
+use Rattle.nodes.proofs.Raised.{written-is}
+use Rattle.nodes.proofs.write_first.Statement.{statement}
+use Rattle.nodes.proofs.write_first.Tie as tie
 
 returns : tie.Need-returns
 returns c = λ x h. written-is _ _ _ _ _ _ _ (c .before .pre .first) x h

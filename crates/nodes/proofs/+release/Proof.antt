@@ -1,19 +1,19 @@
 use borrow.Author.Needs.{needs}
 use native.Mathlib.Omega.{arith}
-use Rattle.arena.proofs.Released.{lower, holds-inside, holds-high, holds-left, holds-right, released-none, released-more, released-last, links-fit, sum-fits}
+use Rattle.nodes.proofs.Released.{lower, holds-inside, holds-high, holds-left, holds-right, released-none, released-more, released-last, links-fit, sum-fits}
 use Prim.Native.Nat.{ℕ, _<_}
 use borrow.Fn.Kinds.{In}
 use borrow.Fn.PlainCycle.{Measures, is, falls, and}
-use Rattle.arena.proofs.release.Reads as release
-use Rattle.arena.proofs.release.Kinds as release-kinds
-use Rattle.arena.proofs.+release.Lts-release as release-lts
+use Rattle.nodes.proofs.release.Reads as release
+use Rattle.nodes.proofs.release.Kinds as release-kinds
+use Rattle.nodes.proofs.+release.Lts-release as release-lts
 use Rattle.arena.proofs.count_of.Reads as count-of-reads
 use Rattle.arena.proofs.left_of.Reads as left-of-reads
-use Rattle.arena.proofs.push_free.Reads as push-free-reads
+use Rattle.nodes.proofs.push_free.Reads as push-free-reads
 use Rattle.arena.proofs.right_of.Reads as right-of-reads
-use Rattle.arena.proofs.set_count.Reads as set-count-reads
-use Rattle.arena.proofs.+release.{statement}
-use Rattle.arena.proofs.+release.Tie.{close}
+use Rattle.nodes.proofs.set_count.Reads as set-count-reads
+use Rattle.nodes.proofs.+release.{statement}
+use Rattle.nodes.proofs.+release.Tie.{close}
 
 abbrev μ-release : Measures 1 release-kinds.ps ℕ
 μ-release κs a = a .1 .1 .0

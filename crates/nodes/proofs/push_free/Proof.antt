@@ -4,8 +4,8 @@ use native.Mathlib.Omega.{arith}
 use mathlib.Core.Path.{refl}
 use Rattle.words.specs.Layout.{head}
 use Rattle.words.specs.Model.{freeing}
-use Rattle.arena.proofs.push_free.Statement.{statement}
-use Rattle.arena.proofs.push_free.Tie as tie
+use Rattle.nodes.proofs.push_free.Statement.{statement}
+use Rattle.nodes.proofs.push_free.Tie as tie
 
 returns : tie.Need-returns
 unfolding freeing head

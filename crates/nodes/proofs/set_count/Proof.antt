@@ -1,7 +1,7 @@
 use borrow.Author.Needs.{needs}
 use Rattle.words.specs.Model.{withCount}
-use Rattle.arena.proofs.set_count.Statement.{statement}
-use Rattle.arena.proofs.set_count.Tie as tie
+use Rattle.nodes.proofs.set_count.Statement.{statement}
+use Rattle.nodes.proofs.set_count.Tie as tie
 
 returns : tie.Need-returns
 unfolding withCount

@@ -11,7 +11,7 @@ use Rattle.words.specs.Owned.{Live, Owned}
 use Rattle.words.specs.Model.{storing, withCount, raising, making}
 use Rattle.words.proofs.OwnedLaws.{count-small}
 use Rattle.words.proofs.Recounting.{owned-long}
-use Rattle.arena.specs.Nodes.{Raisable, Any}
+use Rattle.nodes.specs.Contracts.{Raisable, Any}
 
 pub raised-none : (ws : List ℕ) (i : ℕ) → i ≡ 0 → ws ≡ raising ws i
 unfolding raising
