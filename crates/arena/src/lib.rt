@@ -2,7 +2,7 @@
 ghost use mathlib.Core.Path.{_≡_};
 ghost use Prim.Native.Nat.{_≤_};
 ghost use lib.ListN.{length};
-ghost use Rattle.words.specs.Layout.{nodes, slots, left, right, count, slotRoot, slotSize};
+ghost use Rattle.words.specs.Layout.{nodes, slots, head, left, right, count, slotRoot, slotSize};
 ghost use Rattle.words.specs.Model.{slotting};
 ghost use Rattle.arena.specs.Nodes.{NodeInside, SlotInside, IsNode};
 
@@ -76,6 +76,14 @@ pub fn slots_of(ws: &[u32]) -> u32
     ensures { λ r. ⌜ r ≡ slots (now (ws .entry)) ⌝ }
 {
     ws[SLOTS_WORD]
+}
+
+// The first free node, 0 where there is none.
+pub fn first_free(ws: &[u32]) -> u32
+    requires { ⌜ 8 ≤ length (now ws) ⌝ }
+    ensures { λ r. ⌜ r ≡ head (now (ws .entry)) ⌝ }
+{
+    ws[HEAD_WORD]
 }
 
 // The words of node i.

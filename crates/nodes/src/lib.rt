@@ -1,8 +1,5 @@
 // What writes nodes: they are taken from the free list, counted and given back. Module 2 of document 01's port order, with `arena`.
 ghost use mathlib.Core.Path.{_≡_};
-ghost use Prim.Native.Nat.{_≤_};
-ghost use lib.ListN.{length};
-ghost use Rattle.words.specs.Layout.{head};
 ghost use Rattle.words.specs.Model.{withCount, raising, freeing};
 ghost use Rattle.arena.specs.Nodes.{NodeInside};
 ghost use Rattle.nodes.specs.Contracts.{Raisable, Writable, Written, Makable, Made, Holds, Releases};
@@ -16,6 +13,7 @@ use arena::Node;
 use arena::RIGHT_WORD;
 use arena::VALUE_WORD;
 use arena::count_of;
+use arena::first_free;
 use arena::left_of;
 use arena::right_of;
 
@@ -63,14 +61,6 @@ fn write_first(ws: &mut [u32], i: u32, d: Node)
     ws[b + RIGHT_WORD] = d.right;
     ws[b + COLOR_WORD] = d.color;
     ws[b + COUNT_WORD] = 1;
-}
-
-// The first free node, 0 where there is none.
-pub fn first_free(ws: &[u32]) -> u32
-    requires { ⌜ 8 ≤ length (now ws) ⌝ }
-    ensures { λ r. ⌜ r ≡ head (now (ws .entry)) ⌝ }
-{
-    ws[HEAD_WORD]
 }
 
 // Takes the first free node and writes it whole, with count 1.

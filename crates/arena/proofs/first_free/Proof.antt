@@ -1,7 +1,7 @@
 use borrow.Author.Needs.{needs}
 use Rattle.words.specs.Layout.{head}
-use Rattle.nodes.proofs.first_free.Statement.{statement}
-use Rattle.nodes.proofs.first_free.Tie as tie
+use Rattle.arena.proofs.first_free.Statement.{statement}
+use Rattle.arena.proofs.first_free.Tie as tie
 
 returns : tie.Need-returns
 unfolding head
