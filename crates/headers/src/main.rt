@@ -1,6 +1,8 @@
 // Document 01's program: reads commands from standard input, one to a line, and writes the answers to standard output.
 use answering::answer;
 use answering::listed;
+use arena::MAX_NODES;
+use arena::MAX_SLOTS;
 use commands::Command;
 use commands::Line;
 use commands::parse;
@@ -19,10 +21,7 @@ ghost use Rattle.replies.specs.Text.{longest};
 ghost use Rattle.answering.specs.Answering.{Small};
 ghost use Rattle.headers.specs.Places.{Waits, Flushed, Ready};
 
-const NODES: u32 = 2047;
-
-const SLOTS: u32 = 32;
-
+// The words of the largest arena.
 const WORDS: usize = 12354;
 
 // The most bytes of a line, its end not counted; one more is kept, which tells a longer line.
@@ -237,6 +236,6 @@ fn main() {
     let mut ws = [0u32; WORDS];
     let mut line = [0u8; LINE_ROOM];
     let mut out = [0u8; OUT_ROOM];
-    format(&mut ws, NODES, SLOTS);
+    format(&mut ws, MAX_NODES, MAX_SLOTS);
     serve(&mut ws, &mut line, &mut out);
 }

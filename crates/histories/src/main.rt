@@ -1,6 +1,8 @@
 // Runs long random histories of insert, remove and release, and holds the arena to a plain table after every step.
 // In the table the place k has the value of the k-th key, 0 where there is no such entry.
 use arena::Entry;
+use arena::MAX_NODES;
+use arena::MAX_SLOTS;
 use ranges::Bound;
 use ranges::LastKey;
 use ranges::Range;
@@ -35,11 +37,7 @@ const LIFE: u32 = 160;
 // With so few entries, and no other version held, every removal finds room.
 const FEW_KEYS: u32 = 14;
 
-// Nodes, slots, words and keys of the large history.
-const LARGE_NODES: u32 = 2047;
-
-const LARGE_SLOTS: u32 = 32;
-
+// Words and keys of the large history, which is on the largest arena.
 const LARGE_WORDS: usize = 12354;
 
 const LARGE_KEYS: usize = 4096;
@@ -470,9 +468,9 @@ fn small() {
 fn large() {
     let mut ws = [0u32; LARGE_WORDS];
     let mut table = [0u32; LARGE_KEYS];
-    let first = begin(&mut ws, LARGE_NODES, LARGE_SLOTS);
+    let first = begin(&mut ws, MAX_NODES, MAX_SLOTS);
     let h = large_steps(&mut ws, &mut table, first);
-    report(LARGE_NODES, LARGE_STEPS, end(&mut ws, h, LARGE_NODES));
+    report(MAX_NODES, LARGE_STEPS, end(&mut ws, h, MAX_NODES));
 }
 
 // Both histories.

@@ -12,14 +12,12 @@ use self::numbers::start;
 use self::numbers::take;
 use self::numbers::untouched;
 use self::numbers::whole;
+use arena::MAX_NODES;
+use arena::MAX_SLOTS;
 use passing::pass_done;
 use red_black_tree_map::format;
 
-// The largest arena.
-const NODES: u32 = 2047;
-
-const SLOTS: u32 = 32;
-
+// The words of the largest arena.
 const WORDS: usize = 12354;
 
 // More than the list has: a longer text is cut off, and lacks its last line.
@@ -150,7 +148,7 @@ fn replay(text: &[u8]) -> Tally {
         first: 0,
         finished: false,
     };
-    let tally = expect(none, pass_done(format(&mut ws, NODES, SLOTS)) == 0);
+    let tally = expect(none, pass_done(format(&mut ws, MAX_NODES, MAX_SLOTS)) == 0);
     let reading = start();
     end(steps(&mut ws, &mut line, State { reading, tally }, text))
 }
