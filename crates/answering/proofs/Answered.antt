@@ -9,10 +9,10 @@ use Rattle.arena.specs.Nodes.{entryOf}
 use Rattle.arena.specs.declared.Entry.{Entry}
 use Rattle.calls.specs.Call.{Call, Answer}
 use Rattle.calls.specs.Outcome.{Outcome}
-use Rattle.reading.specs.Answers.{refusalOf, refusalNumber, valueAnswer, entryAnswer}
-use Rattle.reading.specs.declared.Refusal.{Refusal}
-use Rattle.reading.specs.declared.ValueAnswer.{ValueAnswer}
-use Rattle.reading.specs.declared.EntryAnswer.{EntryAnswer}
+use Rattle.answers.specs.Answers.{refusalOf, refusalNumber, valueAnswer, entryAnswer}
+use Rattle.answers.specs.declared.Refusal.{Refusal}
+use Rattle.answers.specs.declared.ValueAnswer.{ValueAnswer}
+use Rattle.answers.specs.declared.EntryAnswer.{EntryAnswer}
 use Rattle.versions.specs.Slots.{slotAnswer, doneAnswer}
 use Rattle.versions.specs.declared.SlotAnswer.{SlotAnswer}
 use Rattle.versions.specs.declared.DoneAnswer.{DoneAnswer}

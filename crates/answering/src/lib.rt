@@ -1,13 +1,12 @@
 // What document 01's program makes of a command: the call, and the reply to what the call answers.
+use answers::EntryAnswer;
+use answers::Refusal;
+use answers::ValueAnswer;
 use arena::Entry;
 use commands::Command;
 use ranges::Bound;
 use ranges::LastKey;
 use ranges::Range;
-use reading::EntryAnswer;
-use reading::Refusal;
-use reading::ValueAnswer;
-use reading::Walk;
 use red_black_tree_map::get;
 use red_black_tree_map::hold;
 use red_black_tree_map::insert;
@@ -18,11 +17,12 @@ use red_black_tree_map::step_front;
 use replies::Reply;
 use versions::DoneAnswer;
 use versions::SlotAnswer;
+use walking::Walk;
 ghost use Rattle.trees.specs.Range.{front as atFront};
 ghost use Rattle.calls.specs.Call.{Call, Answer};
 ghost use Rattle.arena.specs.Nodes.{entryOf};
 ghost use Rattle.ranges.specs.Ranges.{lastOf};
-ghost use Rattle.reading.specs.Answers.{refusalOf, valueAnswer, entryAnswer};
+ghost use Rattle.answers.specs.Answers.{refusalOf, valueAnswer, entryAnswer};
 ghost use Rattle.versions.specs.Slots.{slotAnswer, doneAnswer};
 ghost use Rattle.answering.specs.Answering.{walkFrom, callOf, RepliesTo, Replies};
 
@@ -32,7 +32,7 @@ const END: u32 = 8;
 fn refusal_reply(r: Refusal) -> Reply
     ensures { λ x. ⌜ RepliesTo (Answer.refused (refusalOf r)) x ⌝ }
 {
-    let n = reading::number(r);
+    let n = answers::number(r);
     if n == END {
         return Reply::End;
     }

@@ -19,7 +19,7 @@ use call_lines::step_front;
 use ranges::Bound;
 use ranges::LastKey;
 use ranges::Range;
-use reading::Walk;
+use walking::Walk;
 
 // The greatest key, and the greatest number that a slot may be called by.
 const GREATEST: u32 = 4294967295;

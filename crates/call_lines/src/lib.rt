@@ -1,16 +1,16 @@
 // Makes one call each and writes its name and its answer on a line; a refused call that changed a word is marked.
 // The calls that only read are lent the words to read, so only those that write are watched.
+use answers::EntryAnswer;
+use answers::NumberAnswer;
+use answers::Refusal;
+use answers::Sign;
+use answers::SignAnswer;
+use answers::TruthAnswer;
+use answers::ValueAnswer;
 use arena::Entry;
-use reading::EntryAnswer;
-use reading::NumberAnswer;
-use reading::Refusal;
-use reading::Sign;
-use reading::SignAnswer;
-use reading::TruthAnswer;
-use reading::ValueAnswer;
-use reading::Walk;
 use versions::DoneAnswer;
 use versions::SlotAnswer;
+use walking::Walk;
 
 // The most words that a case lends.
 const WORDS: usize = 12360;
@@ -59,7 +59,7 @@ fn same(a: &[u32], b: &[u32]) -> bool {
 // Writes a refusal.
 fn refusal(r: Refusal) {
     text(b"R ");
-    decimal(reading::number(r));
+    decimal(answers::number(r));
 }
 
 // Marks the line of a refused call after which a word is not as before.

@@ -16,12 +16,12 @@ use Rattle.calls.specs.Outcome.{Outcome}
 use Rattle.calls.specs.Version.{VersionIs}
 use Rattle.calls.proofs.Versions.{version-of, version-fine}
 use Rattle.calls.proofs.ReadingOutcomes.{compare-outcome, equal-outcome}
-use Rattle.reading.specs.declared.Refusal.{Refusal}
-use Rattle.reading.specs.declared.Entered.{Entered}
-use Rattle.reading.specs.declared.Sign.{Sign}
-use Rattle.reading.specs.Answers.{refusalOf, signOf}
-use Rattle.reading.specs.Entering.{Enters}
-use Rattle.reading.proofs.Entries.{root-of, rooted, version-refused, named-first}
+use Rattle.answers.specs.declared.Refusal.{Refusal}
+use Rattle.answers.specs.declared.Entered.{Entered}
+use Rattle.answers.specs.declared.Sign.{Sign}
+use Rattle.answers.specs.Answers.{refusalOf, signOf}
+use Rattle.answers.specs.Entering.{Enters}
+use Rattle.answers.proofs.Entries.{root-of, rooted, version-refused, named-first}
 use Rattle.comparing.specs.Pairs.{Ordered, Compares}
 
 -- A slot that the call names second.

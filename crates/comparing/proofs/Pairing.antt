@@ -17,9 +17,9 @@ use Rattle.arena.specs.declared.Entry.{Entry}
 use Rattle.lookup.specs.declared.Found.{Found}
 use Rattle.lookup.specs.declared.Found.the-variants.{At, Nothing}
 use Rattle.lookup.specs.Finding.{foundOf}
-use Rattle.reading.specs.declared.Sign.{Sign}
-use Rattle.reading.specs.declared.Sign.the-variants.{Less, Same, More}
-use Rattle.reading.specs.Answers.{signOf}
+use Rattle.answers.specs.declared.Sign.{Sign}
+use Rattle.answers.specs.declared.Sign.the-variants.{Less, Same, More}
+use Rattle.answers.specs.Answers.{signOf}
 use Rattle.comparing.specs.declared.Pair.{Pair}
 use Rattle.comparing.specs.declared.Pair.the-variants.{Alike, Decided}
 use Rattle.comparing.specs.Pairs.{Paired}

@@ -16,9 +16,9 @@ use Rattle.lookup.specs.Finding.{foundOf, Finds}
 use Rattle.lookup.specs.declared.Found.{Found}
 use Rattle.ranges.specs.declared.LastKey.{LastKey}
 use Rattle.ranges.specs.declared.LastKey.the-variants.{Given, NotGiven}
-use Rattle.reading.specs.declared.Sign.{Sign}
-use Rattle.reading.specs.declared.Sign.the-variants.{Same}
-use Rattle.reading.specs.Answers.{signOf}
+use Rattle.answers.specs.declared.Sign.{Sign}
+use Rattle.answers.specs.declared.Sign.the-variants.{Same}
+use Rattle.answers.specs.Answers.{signOf}
 use Rattle.comparing.specs.declared.Pair.{Pair}
 use Rattle.comparing.specs.declared.Pair.the-variants.{Alike, Decided}
 use Rattle.comparing.specs.Pairs.{after, rest, SameNext, Pairing, Paces, Ordered, Compares}

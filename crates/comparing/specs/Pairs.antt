@@ -14,8 +14,8 @@ use Rattle.lookup.specs.Finding.{foundOf, Rooted, Finds}
 use Rattle.lookup.specs.declared.Found.{Found}
 use Rattle.ranges.specs.declared.LastKey.{LastKey}
 use Rattle.ranges.specs.Ranges.{lastOf}
-use Rattle.reading.specs.declared.Sign.{Sign}
-use Rattle.reading.specs.Answers.{signOf}
+use Rattle.answers.specs.declared.Sign.{Sign}
+use Rattle.answers.specs.Answers.{signOf}
 use Rattle.comparing.specs.declared.Pair.{Pair}
 use Rattle.comparing.specs.declared.Pair.the-variants.{Alike, Decided}
 

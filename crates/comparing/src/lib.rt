@@ -1,15 +1,15 @@
 // Document 01's compare and equal, on a sound arena: both versions are walked from the front, and the first differing pair decides.
+use answers::Entered;
+use answers::Sign;
+use answers::SignAnswer;
+use answers::TruthAnswer;
+use answers::enter;
 use arena::Entry;
 use lookup::Found;
 use ranges::Bound;
 use ranges::LastKey;
 use ranges::Range;
 use ranges::step_front;
-use reading::Entered;
-use reading::Sign;
-use reading::SignAnswer;
-use reading::TruthAnswer;
-use reading::enter;
 ghost use mathlib.Core.Path.{_≡_};
 ghost use mathlib.Core.Option.{some};
 ghost use Rattle.words.specs.Layout.{maxHeight};
@@ -19,7 +19,7 @@ ghost use Rattle.lookup.specs.Finding.{foundOf, Rooted};
 ghost use Rattle.arena.specs.Nodes.{entryOf};
 ghost use Rattle.calls.specs.Call.{Call};
 ghost use Rattle.calls.specs.Outcome.{Outcome};
-ghost use Rattle.reading.specs.Answers.{signOf, signAnswer, truthAnswer};
+ghost use Rattle.answers.specs.Answers.{signOf, signAnswer, truthAnswer};
 ghost use Rattle.comparing.specs.Pairs.{Paired, Paces, Ordered, Compares};
 
 // What the next entries of both say: they are equal, with this key, or the order is decided.

@@ -5,8 +5,8 @@ use Prim.Native.Nat.{ℕ}
 use Rattle.trees.specs.Range.{End}
 use Rattle.calls.specs.Call as call
 use Rattle.calls.specs.Outcome.{Outcome}
-use Rattle.reading.specs.declared.Walk.{Walk}
-use Rattle.reading.specs.Answers.{walkOf}
+use Rattle.walking.specs.declared.Walk.{Walk}
+use Rattle.walking.specs.Walks.{walkOf}
 use Rattle.passing.specs.Results.{PassedOn}
 use Rattle.passing.specs.Walks.{walkIn}
 use Rattle.foamcorbel.specs.Gives.{Gives}

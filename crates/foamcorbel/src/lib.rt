@@ -1,5 +1,6 @@
 // The calls of document 01 as C functions, which include/foamcorbel.h declares: any words, slots, keys and walks may come in. The result is the
 // refusal's number, 0 when accepted; values go to the words lent as `out`, which a refusal leaves as they were.
+use answers::TruthAnswer;
 use arena::Entry;
 use passing::pass_done;
 use passing::pass_entry;
@@ -9,7 +10,6 @@ use passing::pass_slot;
 use passing::pass_truth;
 use passing::pass_value;
 use passing::walks::walk_in;
-use reading::TruthAnswer;
 ghost use mathlib.Core.List.{[]};
 ghost use Rattle.trees.specs.Range.{front as atFront, back as atBack};
 ghost use Rattle.calls.specs.Call.{Call};

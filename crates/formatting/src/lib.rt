@@ -1,4 +1,5 @@
 // Document 01's format, on any words.
+use answers::Refusal;
 use arena::HEAD_WORD;
 use arena::NODES_WORD;
 use arena::NOT_HELD;
@@ -6,7 +7,6 @@ use arena::SLOTS_WORD;
 use arena::put_slot;
 use limits::fits;
 use nodes::push_free;
-use reading::Refusal;
 use versions::DoneAnswer;
 ghost use mathlib.Core.Path.{_≡_};
 ghost use Prim.Native.Nat.{_≤_};

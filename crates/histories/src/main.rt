@@ -1,15 +1,14 @@
 // Runs long random histories of insert, remove and release, and holds the arena to a plain table after every step.
 // In the table the place k has the value of the k-th key, 0 where there is no such entry.
+use answers::EntryAnswer;
+use answers::NumberAnswer;
+use answers::Refusal;
 use arena::Entry;
 use arena::MAX_NODES;
 use arena::MAX_SLOTS;
 use ranges::Bound;
 use ranges::LastKey;
 use ranges::Range;
-use reading::EntryAnswer;
-use reading::NumberAnswer;
-use reading::Refusal;
-use reading::Walk;
 use red_black_tree_map::format;
 use red_black_tree_map::free_nodes;
 use red_black_tree_map::hold;
@@ -22,6 +21,7 @@ use red_black_tree_map::sound;
 use red_black_tree_map::step_front;
 use versions::DoneAnswer;
 use versions::SlotAnswer;
+use walking::Walk;
 
 // Nodes, slots, words and keys of the small history, and after how many steps it starts over with an empty version.
 const SMALL_NODES: u32 = 64;

@@ -6,13 +6,13 @@ use Prim.Native.Nat.{ℕ}
 use lib.ListN.{set}
 use Rattle.arena.specs.declared.Entry.{Entry}
 use Rattle.calls.specs.Call.{Answer}
-use Rattle.reading.specs.declared.NumberAnswer.{NumberAnswer}
-use Rattle.reading.specs.declared.ValueAnswer.{ValueAnswer}
-use Rattle.reading.specs.declared.EntryAnswer.{EntryAnswer}
-use Rattle.reading.specs.declared.TruthAnswer.{TruthAnswer}
-use Rattle.reading.specs.declared.SignAnswer.{SignAnswer}
-use Rattle.reading.specs.declared.Sign.{Sign}
-use Rattle.reading.specs.Answers.{signOf, numberAnswer, valueAnswer, entryAnswer, truthAnswer, signAnswer}
+use Rattle.answers.specs.declared.NumberAnswer.{NumberAnswer}
+use Rattle.answers.specs.declared.ValueAnswer.{ValueAnswer}
+use Rattle.answers.specs.declared.EntryAnswer.{EntryAnswer}
+use Rattle.answers.specs.declared.TruthAnswer.{TruthAnswer}
+use Rattle.answers.specs.declared.SignAnswer.{SignAnswer}
+use Rattle.answers.specs.declared.Sign.{Sign}
+use Rattle.answers.specs.Answers.{signOf, numberAnswer, valueAnswer, entryAnswer, truthAnswer, signAnswer}
 use Rattle.versions.specs.declared.SlotAnswer.{SlotAnswer}
 use Rattle.versions.specs.Slots.{slotAnswer}
 use Rattle.passing.specs.Results.{signWord, truthWord, status, written, PassedOn}

@@ -7,8 +7,8 @@ use borrow.Author.Tests.{eq-eqb, ne-eqb}
 use Rattle.ranges.specs.declared.Bound.{Bound}
 use Rattle.ranges.specs.declared.LastKey.{LastKey}
 use Rattle.ranges.specs.Ranges.{boundOf, lastOf}
-use Rattle.reading.specs.declared.Walk.{Walk}
-use Rattle.reading.specs.Answers.{walkOf}
+use Rattle.walking.specs.declared.Walk.{Walk}
+use Rattle.walking.specs.Walks.{walkOf}
 use Rattle.passing.specs.Walks.{boundIn, lastIn, walkIn}
 
 module _ (kind key : ℕ) where

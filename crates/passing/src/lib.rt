@@ -1,18 +1,18 @@
 // What crosses to C: each kind of answer as a result and values in lent words, and a walk from nine of them.
 pub mod walks;
 
-use reading::EntryAnswer;
-use reading::NumberAnswer;
-use reading::Sign;
-use reading::SignAnswer;
-use reading::TruthAnswer;
-use reading::ValueAnswer;
-use reading::number;
+use answers::EntryAnswer;
+use answers::NumberAnswer;
+use answers::Sign;
+use answers::SignAnswer;
+use answers::TruthAnswer;
+use answers::ValueAnswer;
+use answers::number;
 use versions::DoneAnswer;
 use versions::SlotAnswer;
 ghost use mathlib.Core.Path.{_≡_};
 ghost use mathlib.Core.List.{[]};
-ghost use Rattle.reading.specs.Answers.{signOf, numberAnswer, valueAnswer, entryAnswer, truthAnswer, signAnswer};
+ghost use Rattle.answers.specs.Answers.{signOf, numberAnswer, valueAnswer, entryAnswer, truthAnswer, signAnswer};
 ghost use Rattle.versions.specs.Slots.{slotAnswer, doneAnswer};
 ghost use Rattle.passing.specs.Results.{signWord, truthWord, PassedOn};
 

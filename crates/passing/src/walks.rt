@@ -2,10 +2,10 @@
 use ranges::Bound;
 use ranges::LastKey;
 use ranges::Range;
-use reading::Walk;
+use walking::Walk;
 ghost use mathlib.Core.Path.{_≡_};
 ghost use Rattle.ranges.specs.Ranges.{boundOf, lastOf};
-ghost use Rattle.reading.specs.Answers.{walkOf};
+ghost use Rattle.walking.specs.Walks.{walkOf};
 ghost use Rattle.passing.specs.Walks.{boundIn, lastIn, walkIn};
 
 const INCLUDED: u32 = 1;

@@ -1,21 +1,22 @@
 // The public calls of document 01: any words, slots, keys and ranges may come in. Each call tests the arena and then does what the table says.
+use answers::EntryAnswer;
+use answers::NumberAnswer;
+use answers::Refusal;
+use answers::SignAnswer;
+use answers::TruthAnswer;
+use answers::ValueAnswer;
 use arena::Entry;
 use books::Tested;
-use reading::EntryAnswer;
-use reading::NumberAnswer;
-use reading::Refusal;
-use reading::SignAnswer;
-use reading::TruthAnswer;
-use reading::ValueAnswer;
-use reading::Walk;
 use soundness::test;
 use versions::DoneAnswer;
 use versions::SlotAnswer;
+use walking::Walk;
 ghost use Rattle.trees.specs.Range.{front as atFront, back as atBack};
 ghost use Rattle.arena.specs.Nodes.{entryOf};
 ghost use Rattle.calls.specs.Call.{Call, Answer};
 ghost use Rattle.calls.specs.Outcome.{Outcome};
-ghost use Rattle.reading.specs.Answers.{walkOf, numberAnswer, valueAnswer, entryAnswer, truthAnswer, signAnswer};
+ghost use Rattle.answers.specs.Answers.{numberAnswer, valueAnswer, entryAnswer, truthAnswer, signAnswer};
+ghost use Rattle.walking.specs.Walks.{walkOf};
 ghost use Rattle.versions.specs.Slots.{slotAnswer, doneAnswer};
 
 // Records N and V, makes all nodes free and no slot held. Any old contents will do.
@@ -157,7 +158,7 @@ pub fn step_front(ws: &[u32], w: Walk) -> EntryAnswer
     let Tested::Sound(_) = test(ws) else {
         return EntryAnswer::Refused(Refusal::Unsound);
     };
-    reading::step_front(ws, w)
+    walking::step_front(ws, w)
 }
 
 // The greatest entry of the walk that is left.
@@ -167,7 +168,7 @@ pub fn step_back(ws: &[u32], w: Walk) -> EntryAnswer
     let Tested::Sound(_) = test(ws) else {
         return EntryAnswer::Refused(Refusal::Unsound);
     };
-    reading::step_back(ws, w)
+    walking::step_back(ws, w)
 }
 
 // Whether the version of slot s holds (0028,1053).

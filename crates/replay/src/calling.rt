@@ -1,16 +1,15 @@
 // Makes the call of a line, LENGTH CODE ARGUMENTS.. STATUS VALUES.., and says whether its answer is the line's.
-use super::answers::done_there;
-use super::answers::entry_at;
-use super::answers::entry_there;
-use super::answers::number_there;
-use super::answers::sign_there;
-use super::answers::slot_there;
-use super::answers::truth_there;
-use super::answers::value_there;
+use super::expected::done_there;
+use super::expected::entry_at;
+use super::expected::entry_there;
+use super::expected::number_there;
+use super::expected::sign_there;
+use super::expected::slot_there;
+use super::expected::truth_there;
+use super::expected::value_there;
 use super::listing::listed;
 use super::numbers::NUMBERS;
 use passing::walks::walk_in;
-use reading::Walk;
 use red_black_tree_map::compare;
 use red_black_tree_map::equal;
 use red_black_tree_map::first;
@@ -25,6 +24,7 @@ use red_black_tree_map::rescale_mark;
 use red_black_tree_map::size;
 use red_black_tree_map::step_back;
 use red_black_tree_map::step_front;
+use walking::Walk;
 
 // The codes of the calls, those of oracle/list.
 const NEW: u32 = 1;

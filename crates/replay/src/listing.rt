@@ -1,15 +1,15 @@
 // Compares a version's listing, walked from the front, with the one of a line.
-use super::answers::ACCEPTED;
-use super::answers::entry_at;
+use super::expected::ACCEPTED;
+use super::expected::entry_at;
 use super::numbers::NUMBERS;
+use answers::EntryAnswer;
+use answers::number;
 use arena::Entry;
 use ranges::Bound;
 use ranges::LastKey;
 use ranges::Range;
-use reading::EntryAnswer;
-use reading::Walk;
-use reading::number;
 use red_black_tree_map::step_front;
+use walking::Walk;
 
 // The status of a walk step with nothing left.
 const END: u32 = 8;

@@ -1,6 +1,6 @@
 // Replays the list of calls with rpds's answers that oracle/list makes, on one arena, and counts the answers that differ.
-mod answers;
 mod calling;
+mod expected;
 mod listing;
 mod numbers;
 

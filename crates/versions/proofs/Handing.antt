@@ -26,11 +26,11 @@ use Rattle.calls.specs.Version.{Lowest}
 use Rattle.calls.specs.Outcome.{Outcome}
 use Rattle.calls.proofs.Versions.{version-of, version-root, version-link}
 use Rattle.calls.proofs.WritingOutcomes.{new-full, new-outcome, hold-outcome, release-outcome}
-use Rattle.reading.specs.declared.Refusal.{Refusal}
-use Rattle.reading.specs.declared.Entered.{Entered}
-use Rattle.reading.specs.Answers.{refusalOf}
-use Rattle.reading.specs.Entering.{Enters}
-use Rattle.reading.proofs.Entries.{root-of, version-refused, named-first}
+use Rattle.answers.specs.declared.Refusal.{Refusal}
+use Rattle.answers.specs.declared.Entered.{Entered}
+use Rattle.answers.specs.Answers.{refusalOf}
+use Rattle.answers.specs.Entering.{Enters}
+use Rattle.answers.proofs.Entries.{root-of, version-refused, named-first}
 use Rattle.versions.specs.declared.FreeSlot.{FreeSlot}
 use Rattle.versions.specs.declared.FreeSlot.the-variants.{At, AllHeld}
 use Rattle.versions.specs.declared.Parent.{Parent}

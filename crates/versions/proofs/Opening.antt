@@ -14,12 +14,12 @@ use Rattle.calls.specs.Table.{slotsOf, tests}
 use Rattle.calls.specs.Outcome.{Outcome}
 use Rattle.calls.proofs.Passing.{no-version-outcome}
 use Rattle.calls.proofs.WritingOutcomes.{slots-full}
-use Rattle.reading.specs.declared.Refusal.{Refusal}
-use Rattle.reading.specs.declared.Refusal.the-variants.{BadShape, Unsound, NoVersion, BadRange, Absent, NoSlot, NoRoom, End}
-use Rattle.reading.specs.declared.Entered.{Entered}
-use Rattle.reading.specs.Answers.{refusalOf}
-use Rattle.reading.specs.Entering.{Entering, Enters}
-use Rattle.reading.proofs.Entries.{root-of, named-first}
+use Rattle.answers.specs.declared.Refusal.{Refusal}
+use Rattle.answers.specs.declared.Refusal.the-variants.{BadShape, Unsound, NoVersion, BadRange, Absent, NoSlot, NoRoom, End}
+use Rattle.answers.specs.declared.Entered.{Entered}
+use Rattle.answers.specs.Answers.{refusalOf}
+use Rattle.answers.specs.Entering.{Entering, Enters}
+use Rattle.answers.proofs.Entries.{root-of, named-first}
 use Rattle.versions.specs.declared.FreeSlot.{FreeSlot}
 use Rattle.versions.specs.declared.FreeSlot.the-variants.{At, AllHeld}
 use Rattle.versions.specs.declared.Parent.{Parent}

@@ -7,9 +7,9 @@ use Rattle.words.specs.Reads.{Held}
 use Rattle.words.specs.Sound.{Sound}
 use Rattle.calls.specs.Call.{Answer}
 use Rattle.calls.specs.Version.{Lowest}
-use Rattle.reading.specs.declared.Refusal.{Refusal}
-use Rattle.reading.specs.declared.Refusal.the-variants.{BadShape, Unsound, NoVersion, BadRange, Absent, NoSlot, NoRoom, End}
-use Rattle.reading.specs.Answers.{refusalOf}
+use Rattle.answers.specs.declared.Refusal.{Refusal}
+use Rattle.answers.specs.declared.Refusal.the-variants.{BadShape, Unsound, NoVersion, BadRange, Absent, NoSlot, NoRoom, End}
+use Rattle.answers.specs.Answers.{refusalOf}
 use Rattle.versions.specs.declared.FreeSlot.{FreeSlot}
 use Rattle.versions.specs.declared.FreeSlot.the-variants.{At, AllHeld}
 use Rattle.versions.specs.declared.Parent.{Parent}

@@ -1,4 +1,7 @@
 // The versions: new, hold and release, on a sound arena, and the tests of the calls that hand out a slot. Each takes the free number and gives it back.
+use answers::Entered;
+use answers::Refusal;
+use answers::enter;
 use arena::MAX_HEIGHT;
 use arena::NOT_HELD;
 use arena::nodes_of;
@@ -7,9 +10,6 @@ use arena::slot_root;
 use arena::slot_size;
 use arena::slots_of;
 use nodes::count_up;
-use reading::Entered;
-use reading::Refusal;
-use reading::enter;
 ghost use mathlib.Core.Path.{_≡_};
 ghost use Rattle.words.specs.Layout.{nodes};
 ghost use Rattle.words.specs.Sound.{Sound};

@@ -24,8 +24,8 @@ use Rattle.calls.specs.Refusal as calls
 use Rattle.calls.specs.Call as call
 use Rattle.calls.specs.Outcome.{Outcome}
 use Rattle.calls.proofs.WritingOutcomes.{insert-full, insert-outcome, remove-full, remove-outcome, remove-absent-outcome}
-use Rattle.reading.specs.declared.Refusal.{Refusal}
-use Rattle.reading.specs.Answers.{refusalOf}
+use Rattle.answers.specs.declared.Refusal.{Refusal}
+use Rattle.answers.specs.Answers.{refusalOf}
 use Rattle.versions.specs.declared.Parent.{Parent}
 use Rattle.versions.specs.declared.Opened.{Opened}
 use Rattle.versions.specs.Slots.{Parents, Opens}

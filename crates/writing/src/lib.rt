@@ -1,11 +1,11 @@
 // Insert and remove, on a sound arena: document 01's table. `red_black_tree_map` tests the arena first. Each takes the free number and gives it back.
+use answers::Refusal;
 use arena::Entry;
 use arena::MAX_HEIGHT;
 use arena::nodes_of;
 use arena::put_slot;
 use heights::conservative_height;
 use lookup::Found;
-use reading::Refusal;
 use versions::Handed;
 use versions::Opened;
 use versions::Parent;

@@ -1,5 +1,5 @@
 use borrow.Author.Needs.{needs}
-use Rattle.reading.proofs.Entries.{rooted}
+use Rattle.answers.proofs.Entries.{rooted}
 use Rattle.reading.proofs.Answering.{first-refused, first-absent, first-entry}
 use Rattle.reading.proofs.first.Statement.{statement}
 use Rattle.reading.proofs.first.Tie as tie

@@ -1,5 +1,5 @@
 use borrow.Author.Needs.{needs}
-use Rattle.reading.proofs.Entries.{rooted}
+use Rattle.answers.proofs.Entries.{rooted}
 use Rattle.reading.proofs.Answering.{get-refused, get-absent, get-value}
 use Rattle.reading.proofs.get.Statement.{statement}
 use Rattle.reading.proofs.get.Tie as tie

@@ -1,5 +1,5 @@
 use borrow.Author.Needs.{needs}
-use Rattle.reading.proofs.Entries.{rooted}
+use Rattle.answers.proofs.Entries.{rooted}
 use Rattle.reading.proofs.Answering.{last-refused, last-absent, last-entry}
 use Rattle.reading.proofs.last.Statement.{statement}
 use Rattle.reading.proofs.last.Tie as tie

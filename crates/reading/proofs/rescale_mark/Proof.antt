@@ -1,5 +1,5 @@
 use borrow.Author.Needs.{needs}
-use Rattle.reading.proofs.Entries.{rooted}
+use Rattle.answers.proofs.Entries.{rooted}
 use Rattle.reading.proofs.Answering.{mark-refused, mark-no, mark-yes}
 use Rattle.reading.proofs.rescale_mark.Statement.{statement}
 use Rattle.reading.proofs.rescale_mark.Tie as tie

@@ -1,5 +1,5 @@
 use borrow.Author.Needs.{needs}
-use Rattle.reading.proofs.Entries.{header-inside, held-inside}
+use Rattle.answers.proofs.Entries.{header-inside, held-inside}
 use Rattle.reading.proofs.Answering.{size-refused, size-told}
 use Rattle.reading.proofs.size.Statement.{statement}
 use Rattle.reading.proofs.size.Tie as tie

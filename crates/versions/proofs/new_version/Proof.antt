@@ -1,5 +1,5 @@
 use borrow.Author.Needs.{needs}
-use Rattle.reading.proofs.Entries.{header-inside}
+use Rattle.answers.proofs.Entries.{header-inside}
 use Rattle.versions.proofs.Handing.{new-refused, new-inside, new-told, new-free}
 use Rattle.versions.proofs.new_version.Statement.{statement}
 use Rattle.versions.proofs.new_version.Tie as tie

@@ -1,5 +1,5 @@
 use borrow.Author.Needs.{needs}
-use Rattle.reading.proofs.Entries.{header-inside, held-inside}
+use Rattle.answers.proofs.Entries.{header-inside, held-inside}
 use Rattle.versions.proofs.Opening.{open-full, open-refused, open-at}
 use Rattle.versions.proofs.open.Statement.{statement}
 use Rattle.versions.proofs.open.Tie as tie

@@ -1,5 +1,5 @@
 use borrow.Author.Needs.{needs}
-use Rattle.reading.proofs.Entries.{header-inside, held-inside}
+use Rattle.answers.proofs.Entries.{header-inside, held-inside}
 use Rattle.versions.proofs.Handing.{release-holds, release-refused, release-told, release-fits, release-free}
 use Rattle.versions.proofs.release.Statement.{statement}
 use Rattle.versions.proofs.release.Tie as tie

@@ -1,5 +1,5 @@
 use borrow.Author.Needs.{needs}
-use Rattle.reading.proofs.Entries.{header-inside}
+use Rattle.answers.proofs.Entries.{header-inside}
 use Rattle.versions.proofs.Handing.{share-raisable, share-inside, share-is}
 use Rattle.versions.proofs.share.Statement.{statement}
 use Rattle.versions.proofs.share.Tie as tie

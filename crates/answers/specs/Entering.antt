@@ -4,8 +4,8 @@ use mathlib.Core.List.{List}
 use Prim.Native.Nat.{ℕ}
 use Rattle.words.specs.Layout.{nodes, slotRoot}
 use Rattle.words.specs.Reads.{Held}
-use Rattle.reading.specs.declared.Refusal.the-variants.{NoVersion}
-use Rattle.reading.specs.declared.Entered.{Entered}
+use Rattle.answers.specs.declared.Refusal.the-variants.{NoVersion}
+use Rattle.answers.specs.declared.Entered.{Entered}
 
 abbrev pub Entering : List ℕ → ℕ → Entered → Type 0
 Entering ws s (Entered.Root i) = Held ws s × (i ≡ slotRoot (nodes ws) ws s)

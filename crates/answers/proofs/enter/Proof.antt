@@ -1,7 +1,7 @@
 use borrow.Author.Needs.{needs}
-use Rattle.reading.proofs.Entries.{header-inside, slot-inside, enter-beyond, enter-free, enter-held}
-use Rattle.reading.proofs.enter.Statement.{statement}
-use Rattle.reading.proofs.enter.Tie as tie
+use Rattle.answers.proofs.Entries.{header-inside, slot-inside, enter-beyond, enter-free, enter-held}
+use Rattle.answers.proofs.enter.Statement.{statement}
+use Rattle.answers.proofs.enter.Tie as tie
 
 pub enter-spec : {M : Type 1} → statement M
 enter-spec =

@@ -1,7 +1,7 @@
 use borrow.Author.Needs.{needs}
-use Rattle.reading.proofs.Answering.{step-entry, step-end}
-use Rattle.reading.proofs.step_answer.Statement.{statement}
-use Rattle.reading.proofs.step_answer.Tie as tie
+use Rattle.walking.proofs.Steps.{step-entry, step-end}
+use Rattle.walking.proofs.step_answer.Statement.{statement}
+use Rattle.walking.proofs.step_answer.Tie as tie
 
 pub step-answer-spec : {M : Type 1} → statement M
 step-answer-spec =

@@ -1,7 +1,7 @@
 use borrow.Author.Needs.{needs}
-use Rattle.reading.proofs.Answering.{from-above, from-excluded, after-above, after-excluded}
-use Rattle.reading.proofs.bad_range.Statement.{statement}
-use Rattle.reading.proofs.bad_range.Tie as tie
+use Rattle.walking.proofs.BadRanges.{from-above, from-excluded, after-above, after-excluded}
+use Rattle.walking.proofs.bad_range.Statement.{statement}
+use Rattle.walking.proofs.bad_range.Tie as tie
 
 pub bad-range-spec : {M : Type 1} → statement M
 bad-range-spec =

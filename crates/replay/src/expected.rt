@@ -1,5 +1,10 @@
 // Compares an answer with the one that a line of numbers gives from a place on: STATUS VALUES.., and no number more.
 use super::numbers::NUMBERS;
+use answers::EntryAnswer;
+use answers::NumberAnswer;
+use answers::SignAnswer;
+use answers::TruthAnswer;
+use answers::ValueAnswer;
 use arena::Entry;
 use passing::pass_done;
 use passing::pass_entry;
@@ -8,11 +13,6 @@ use passing::pass_sign;
 use passing::pass_slot;
 use passing::pass_truth;
 use passing::pass_value;
-use reading::EntryAnswer;
-use reading::NumberAnswer;
-use reading::SignAnswer;
-use reading::TruthAnswer;
-use reading::ValueAnswer;
 use versions::DoneAnswer;
 use versions::SlotAnswer;
 

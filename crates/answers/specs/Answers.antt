@@ -2,21 +2,17 @@
 use Prim.Native.Nat.{ℕ}
 use Rattle.trees.specs.Order as order
 use Rattle.arena.specs.Nodes.{entryOf}
-use Rattle.lookup.specs.declared.Found.{Found}
-use Rattle.lookup.specs.declared.Found.the-variants.{At, Nothing}
-use Rattle.ranges.specs.Ranges.{rangeOf}
 use Rattle.calls.specs.Refusal as calls
 use Rattle.calls.specs.Call as call
-use Rattle.reading.specs.declared.Refusal.{Refusal}
-use Rattle.reading.specs.declared.Refusal.the-variants.{BadShape, Unsound, NoVersion, BadRange, Absent, NoSlot, NoRoom, End}
-use Rattle.reading.specs.declared.NumberAnswer.{NumberAnswer}
-use Rattle.reading.specs.declared.ValueAnswer.{ValueAnswer}
-use Rattle.reading.specs.declared.EntryAnswer.{EntryAnswer}
-use Rattle.reading.specs.declared.TruthAnswer.{TruthAnswer}
-use Rattle.reading.specs.declared.SignAnswer.{SignAnswer}
-use Rattle.reading.specs.declared.Sign.{Sign}
-use Rattle.reading.specs.declared.Sign.the-variants.{Less, Same, More}
-use Rattle.reading.specs.declared.Walk.{Walk}
+use Rattle.answers.specs.declared.Refusal.{Refusal}
+use Rattle.answers.specs.declared.Refusal.the-variants.{BadShape, Unsound, NoVersion, BadRange, Absent, NoSlot, NoRoom, End}
+use Rattle.answers.specs.declared.NumberAnswer.{NumberAnswer}
+use Rattle.answers.specs.declared.ValueAnswer.{ValueAnswer}
+use Rattle.answers.specs.declared.EntryAnswer.{EntryAnswer}
+use Rattle.answers.specs.declared.TruthAnswer.{TruthAnswer}
+use Rattle.answers.specs.declared.SignAnswer.{SignAnswer}
+use Rattle.answers.specs.declared.Sign.{Sign}
+use Rattle.answers.specs.declared.Sign.the-variants.{Less, Same, More}
 
 abbrev pub refusalOf : Refusal → calls.Refusal
 refusalOf BadShape = calls.Refusal.bad-shape
@@ -55,11 +51,3 @@ signOf More = order.more
 abbrev pub signAnswer : SignAnswer → call.Answer
 signAnswer (SignAnswer.Sign d) = call.Answer.sign (signOf d)
 signAnswer (SignAnswer.Refused r) = call.Answer.refused (refusalOf r)
-
-abbrev pub walkOf : Walk → call.Walk
-walkOf w = record { slot = w .slot; range = rangeOf (w .range) }
-
--- A step's answer by what it found.
-abbrev pub stepped : Found → call.Answer
-stepped (At e) = call.Answer.entry (entryOf e)
-stepped Nothing = call.Answer.refused calls.Refusal.ended

@@ -17,11 +17,11 @@ use Rattle.calls.specs.Call as call
 use Rattle.calls.specs.Table.{slotsOf, tests}
 use Rattle.calls.specs.Outcome.{Outcome}
 use Rattle.calls.proofs.Passing.{no-version-outcome}
-use Rattle.reading.specs.declared.Refusal.{Refusal}
-use Rattle.reading.specs.declared.Refusal.the-variants.{NoVersion}
-use Rattle.reading.specs.declared.Entered.{Entered}
-use Rattle.reading.specs.Answers.{refusalOf}
-use Rattle.reading.specs.Entering.{Entering, Enters}
+use Rattle.answers.specs.declared.Refusal.{Refusal}
+use Rattle.answers.specs.declared.Refusal.the-variants.{NoVersion}
+use Rattle.answers.specs.declared.Entered.{Entered}
+use Rattle.answers.specs.Answers.{refusalOf}
+use Rattle.answers.specs.Entering.{Entering, Enters}
 
 module _ {ws : List ℕ} (S : Sound ws) where
   pub header-inside : headerWords ≤ length ws
