@@ -34,6 +34,9 @@ module _ {ws : List ℕ} {s : ℕ} where
   pub enter-beyond : {v : ℕ} → v ≡ slots ws → v ≤ s → Enters ws s (Entered.Refused NoVersion)
   enter-beyond e l = record { entering = (refl, λ h. omega (arith, h .inside)) }
 
+  pub enter-above : {v : ℕ} → v ≡ slots ws → v < s → Enters ws s (Entered.Refused NoVersion)
+  enter-above e l = enter-beyond e (omega arith)
+
   pub enter-free : {n i : ℕ} → n ≡ nodes ws → i ≡ slotRoot n ws s → i ≡ 4294967295 → Enters ws s (Entered.Refused NoVersion)
   enter-free {n} {i} e r f = record { entering = (refl, λ h. h .held (ap (λ (m : ℕ). slotRoot m ws s) (sym e) ∙ sym r ∙ f)) }
 
@@ -41,6 +44,9 @@ module _ {ws : List ℕ} {s : ℕ} where
   enter-held {v} {n} {i} d l e r f =
       let z : i ≡ slotRoot (nodes ws) ws s = r ∙ ap (λ (m : ℕ). slotRoot m ws s) e in
       record { entering = (record { inside = omega arith; held = λ h. f (z ∙ h) }, z) }
+
+-- Testing for more than V would refuse rightly too; that it lets V through, the read of the slot shows.
+pub ruleset enter-outside = (enter-beyond, enter-above)
 
 module _ {ws : List ℕ} {s : ℕ} {x : Entered} (S : Sound ws) (g : Enters ws s x) where
   pub root-of : {i : ℕ} → x ≡ Entered.Root i → Held ws s × (i ≡ slotRoot (nodes ws) ws s)

@@ -1,5 +1,5 @@
 use borrow.Author.Needs.{needs}
-use Rattle.answers.proofs.Entries.{header-inside, slot-inside, enter-beyond, enter-free, enter-held}
+use Rattle.answers.proofs.Entries.{header-inside, slot-inside, enter-outside, enter-free, enter-held}
 use Rattle.answers.proofs.enter.Statement.{statement}
 use Rattle.answers.proofs.enter.Tie as tie
 
@@ -8,7 +8,7 @@ enter-spec =
     tie.close
     (tie.spec
     (λ c κs. search header-inside)
-    (λ c. search enter-beyond)
+    (λ c. search enter-outside)
     (λ c κs. search header-inside)
     (λ c κs. search slot-inside)
     (λ c. search enter-free)
