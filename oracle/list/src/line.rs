@@ -6,7 +6,7 @@ pub const BAD_RANGE: u32 = 4;
 pub const ABSENT: u32 = 5;
 pub const END: u32 = 8;
 
-/// The calls with their codes, those of `crates/replay/src/calls.rt`.
+/// The calls with their codes, those of `crates/replay/src/calling.rt`.
 #[derive(Clone, Copy, Debug, PartialEq, Eq, PartialOrd, Ord)]
 pub enum Call {
     /// The last line: how many lines stand above it.
