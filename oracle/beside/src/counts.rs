@@ -1,6 +1,7 @@
 //! How much was compared.
 use crate::model::Model;
-use library::call::{Answer, Call, NAMES};
+use library::call::{Answer, Call, NAMES, NO_ROOM, NO_SLOT};
+use library::outcome::{Outcome, holds, same};
 use std::fmt::{self, Display, Formatter};
 
 #[derive(Clone, Default)]
@@ -20,6 +21,9 @@ pub struct Counts {
     /// Calls after which no node was free, and after which every slot was held.
     pub no_node_free: u64,
     pub all_slots_held: u64,
+    /// The most nodes of an arena that gave NO_ROOM, and the most slots of one that gave NO_SLOT.
+    no_room_at: u32,
+    no_slot_at: u32,
 }
 
 impl Counts {
@@ -28,6 +32,21 @@ impl Counts {
             Answer::Refused(number) => self.refused[call.kind()][number.min(8) as usize] += 1,
             _ => self.accepted[call.kind()] += 1,
         }
+    }
+
+    pub fn refused_by(&mut self, model: &Model, answer: Answer) {
+        match answer {
+            Answer::Refused(NO_ROOM) => self.no_room_at = self.no_room_at.max(model.n),
+            Answer::Refused(NO_SLOT) => self.no_slot_at = self.no_slot_at.max(model.v()),
+            _ => {}
+        }
+    }
+
+    /// The histories were to fill the largest arena and all slots, and to leave no node.
+    pub fn demand_full(&self) -> Outcome {
+        same("the most nodes of an arena that gave NO_ROOM", 2047, self.no_room_at)?;
+        same("the most slots of an arena that gave NO_SLOT", 32, self.no_slot_at)?;
+        holds("some calls leave no node free", self.no_node_free > 0)
     }
 
     pub fn fullest(&mut self, model: &Model) {

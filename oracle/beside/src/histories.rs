@@ -2,6 +2,7 @@
 use crate::choice::History;
 use crate::counts::Counts;
 use crate::pair::Pair;
+use crate::walks;
 use common::keys::Keys;
 use common::random::Random;
 use library::Subject;
@@ -41,26 +42,28 @@ const PLANS: [Plan; 21] = [
     Plan { n: 2047, v: 32, calls: 300, filled: 1700 },
 ];
 
-/// Histories of every plan by every kind of keys, as long as there are calls left; each has a share of its plan's calls.
-pub fn run<S: Subject + Clone>(
-    subject: &S,
-    calls: u64,
-    share: u64,
-    random: &mut Random,
-    counts: &mut Counts,
-) -> Outcome {
-    let mut left = calls;
-    for keys in Keys::ALL.into_iter().cycle() {
-        for plan in &PLANS {
-            let length = (plan.calls / share).max(1).min(left);
-            go(subject.clone(), plan, keys, length, random, counts)?;
-            left -= length;
-            if left == 0 {
-                return Ok(());
+/// The most nodes of an arena.
+pub const LARGEST: u32 = 2047;
+
+/// How much of the plans is run.
+pub struct Extent {
+    /// How often every plan is run with every kind of keys.
+    pub rounds: u64,
+    /// The part of its plan's calls that each history has.
+    pub share: u64,
+    /// The most nodes of the plans that are run.
+    pub largest: u32,
+}
+
+pub fn run<S: Subject + Clone>(subject: &S, extent: &Extent, random: &mut Random, counts: &mut Counts) -> Outcome {
+    for _ in 0..extent.rounds {
+        for keys in Keys::ALL {
+            for plan in PLANS.iter().filter(|plan| plan.n <= extent.largest) {
+                go(subject.clone(), plan, keys, plan.calls / extent.share, random, counts)?;
             }
         }
     }
-    unreachable!("the calls run out first")
+    Ok(())
 }
 
 fn go<S: Subject>(
@@ -85,9 +88,19 @@ fn go<S: Subject>(
     for call in 1..=length {
         history.call(&mut pair, random, counts).map_err(|message| place(call, message))?;
     }
+    list_a_version(&mut pair, random, counts).map_err(|message| place(length, message))?;
     counts.histories += 1;
     counts.calls += length;
     Ok(())
+}
+
+/// A version that the history ends with is walked whole, however many entries it has.
+fn list_a_version<S: Subject>(pair: &mut Pair<S>, random: &mut Random, counts: &mut Counts) -> Outcome {
+    let held = pair.model.held();
+    if held.is_empty() {
+        return Ok(());
+    }
+    walks::compare_all(pair, held[random.below(held.len())], random, counts)
 }
 
 /// Puts entries in by inserts and releases of which only the answers are compared; the version that they end with is compared whole.

@@ -2,7 +2,6 @@
 use crate::twins::Twins;
 use library::call::{ABSENT, BAD_RANGE, BAD_SHAPE, END, NO_ROOM, NO_SLOT, NO_VERSION};
 use library::call::{Answer, Bound, Call, End, Walk, truth};
-use library::lent::arena_len;
 use seen::Map;
 use std::cmp::Ordering;
 use std::ops;
@@ -99,6 +98,11 @@ impl Model {
         let slot = self.handed_out()?;
         if (self.free() as usize) < reserve(map) { Err(NO_ROOM) } else { Ok(slot) }
     }
+}
+
+/// "For N nodes and V version slots it has exactly 8 + 2V + 6N words."
+fn arena_len(n: u32, v: u32) -> usize {
+    8 + 2 * v as usize + 6 * n as usize
 }
 
 /// "H(0) = 0 and otherwise H(n) = 2 × floor(log2(n+1))."

@@ -6,7 +6,7 @@ use crate::twins::Entered;
 use library::Subject;
 use library::call::{Answer, Call};
 use library::layout;
-use library::lent::{Lent, arena_len};
+use library::lent::Lent;
 use library::outcome::{Outcome, holds, same};
 use seen::{Map, Seen};
 use std::rc::Rc;
@@ -32,7 +32,7 @@ impl<S: Subject> Pair<S> {
     /// A formatted arena, made of words with any old contents.
     pub fn start(subject: S, n: u32, v: u32, old: u32, counts: &mut Counts) -> Outcome<Pair<S>> {
         let lent = Lent::arena(n, v, old);
-        let model = Model { len: arena_len(n, v), ..Model::formatted(1, 1) };
+        let model = Model { len: lent.words().len(), ..Model::formatted(1, 1) };
         let mut pair = Pair { subject, before: Vec::new(), lent, model, free: 0, unchecked: 0 };
         pair.call(Call::Format { n, v }, counts)?;
         Ok(pair)
@@ -49,6 +49,7 @@ impl<S: Subject> Pair<S> {
         let expected = self.model.expected(call);
         let found = self.subject.call(&mut self.lent, call);
         counts.count(call, found);
+        counts.refused_by(&self.model, found);
         same("answer", expected, found)?;
         holds("no word beside the lent ones is written", self.lent.guards_whole())?;
         if !call.writes() || matches!(found, Answer::Refused(_)) {
@@ -73,59 +74,70 @@ impl<S: Subject> Pair<S> {
     /// The model after an accepted call; a new version is compared with rpds's node by node.
     fn follow(&mut self, call: Call, found: Answer, counts: &mut Counts) -> Outcome {
         let slot = slot_of(call, found);
-        match call {
+        let taken = match call {
+            Call::New => Some(self.enter(slot, Map::new(), counts)?),
+            Call::Insert { s, key, value } => Some(self.enter(slot, self.parent(s).insert(key, value), counts)?),
+            Call::Remove { s, key } => Some(self.enter(slot, self.parent(s).remove(&key), counts)?),
+            Call::Hold { s } => Some(self.hold(s, slot)?),
+            Call::Release { s } => {
+                self.release(s);
+                None
+            }
             Call::Format { n, v } => {
                 self.model = Model::formatted(n, v);
-                self.free = n;
+                None
             }
-            Call::New => self.enter(slot, Map::new(), counts)?,
-            Call::Hold { s } => self.hold(s, slot)?,
-            Call::Release { s } => {
-                let held = self.model.slots[s as usize].take().expect("an accepted release names a held slot");
-                self.model.twins.release(&held.nodes);
-                self.free = self.model.free();
-            }
-            Call::Insert { s, key, value } => self.enter(slot, self.parent(s).insert(key, value), counts)?,
-            Call::Remove { s, key } => self.enter(slot, self.parent(s).remove(&key), counts)?,
             _ => unreachable!("every call that writes is above"),
-        }
+        };
         counts.fullest(&self.model);
-        let free = self.free_number(counts);
-        same("free number after the call", Answer::Word(self.free), free)?;
-        same("free number by the account", Answer::Word(self.model.free()), free)
+        let before = self.free;
+        self.free = self.free_number(counts)?;
+        same("free number, by the account", self.model.free(), self.free)?;
+        taken.map_or(Ok(()), |taken| {
+            same("free number, less the nodes that rpds has made", before.wrapping_sub(taken), self.free)
+        })
     }
 
-    fn hold(&mut self, s: u32, slot: u32) -> Outcome {
+    fn release(&mut self, s: u32) {
+        let held = self.model.slots[s as usize].take().expect("an accepted release names a held slot");
+        self.model.twins.release(&held.nodes);
+    }
+
+    /// A second slot, which takes no node.
+    fn hold(&mut self, s: u32, slot: u32) -> Outcome<u32> {
         let words = self.lent.words();
         same("root and size of the second slot", layout::slot(words, s), layout::slot(words, slot))?;
         let held = self.model.slots[s as usize].clone().expect("an accepted hold names a held slot");
         self.model.twins.hold(&held.nodes);
         self.model.slots[slot as usize] = Some(held);
-        Ok(())
+        Ok(0)
     }
 
-    fn free_number(&mut self, counts: &mut Counts) -> Answer {
+    fn free_number(&mut self, counts: &mut Counts) -> Outcome<u32> {
         let found = self.subject.call(&mut self.lent, Call::FreeNodes);
         counts.count(Call::FreeNodes, found);
-        found
+        match found {
+            Answer::Word(free) => Ok(free),
+            _ => Err(format!("free nodes gives {found:?}")),
+        }
     }
 
     fn parent(&self, s: u32) -> &Map {
         self.model.map(s).expect("an accepted edit names a held slot")
     }
 
-    /// The new version in its slot: size, nodes and listing. As many nodes are taken as rpds has made.
-    fn enter(&mut self, slot: u32, map: Map, counts: &mut Counts) -> Outcome {
+    /// The new version in its slot: size, nodes and listing. Gives how many nodes rpds has made.
+    fn enter(&mut self, slot: u32, map: Map, counts: &mut Counts) -> Outcome<u32> {
         let words = self.lent.words();
         let (root, _) = layout::slot(words, slot);
         let Entered { nodes, fresh } = self.model.twins.enter(&Seen::of(&map), words, root)?;
         same("nodes of the new version", map.size(), nodes.len())?;
-        self.free -= fresh as u32;
         counts.nodes += nodes.len() as u64;
         counts.fresh += fresh as u64;
         counts.largest = counts.largest.max(map.size());
         self.model.slots[slot as usize] = Some(Held { map, nodes: Rc::new(nodes) });
-        self.compare_listing(slot)
+        self.compare_listing(slot)?;
+        Ok(fresh as u32)
     }
 
     /// The listing of a held slot, read from the words, beside rpds's iterator.
@@ -142,10 +154,9 @@ impl<S: Subject> Pair<S> {
     pub fn adopt(&mut self, s: u32, map: Map, counts: &mut Counts) -> Outcome {
         holds("the filled arena is sound", checker::sound(self.lent.words()))?;
         self.model = Model::formatted(self.model.n, self.model.v());
-        self.free = self.model.n;
         self.enter(s, map, counts)?;
-        let free = self.free_number(counts);
-        same("free number of the filled arena", Answer::Word(self.model.free()), free)
+        self.free = self.free_number(counts)?;
+        same("free number of the filled arena", self.model.free(), self.free)
     }
 }
 

@@ -2,7 +2,7 @@
 use crate::outcome::{Outcome, holds};
 use crate::version::Version;
 use steps::edit::Edit;
-use steps::height::{h, insert_reserve, remove_reserve};
+use steps::height::{h, insert_reserve, is_log, lg, remove_reserve};
 use steps::lookup::{has, path};
 use steps::shape::fine;
 use steps::tree::{Tree, height, made, size};
@@ -10,6 +10,7 @@ use steps::tree::{Tree, height, made, size};
 pub fn hold(parent: &Version, change: Edit, child: &Version, found: &Tree) -> Outcome {
     holds("keys ascend, the root is black, the shape is red-black", fine(found))?;
     holds("the height is at most H(size)", height(found) <= h(size(found)))?;
+    holds("lg is the rounded-down logarithm", is_log(size(found) + 1, lg(size(found) + 1) as u32))?;
     match change {
         Edit::Setting(x) => hold_after_insert(parent, x.key, found),
         Edit::Cutting(k) if has(k, &parent.tree) => hold_after_remove(parent, found),

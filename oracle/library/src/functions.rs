@@ -1,4 +1,4 @@
-//! The C functions as include/foamcorbel.h declares them, and what they answer. The only file with unsafe code.
+//! The C functions as include/foamcorbel.h declares them, and what they answer. The only file of the oracle with unsafe code.
 use crate::call::{Answer, Call, End};
 
 unsafe extern "C" {

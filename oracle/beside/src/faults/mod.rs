@@ -3,7 +3,7 @@ mod answers;
 mod words;
 
 use crate::counts::Counts;
-use crate::histories;
+use crate::histories::{self, Extent, LARGEST};
 use common::quiet;
 use common::random::Random;
 use library::call::{Answer, Call};
@@ -14,9 +14,8 @@ use library::{Library, Subject};
 /// What a fault makes of a call: the words before it, the words after it, and the right answer; it gives the wrong one.
 type Spoil = fn(&[u32], &mut Lent, Call, Answer) -> Answer;
 
-/// The calls of histories in which a fault has to be found.
-const CALLS: u64 = 60_000;
-const SHARE: u64 = 5;
+/// The histories in which a fault has to be found.
+const EXTENT: Extent = Extent { rounds: 2, share: 5, largest: LARGEST };
 
 #[derive(Clone)]
 struct Faulty {
@@ -35,13 +34,12 @@ pub fn run(seed: u64) -> Outcome {
     let faults: Vec<(&str, Spoil)> = answers::FAULTS.iter().chain(words::FAULTS).copied().collect();
     let mut missed = Vec::new();
     for (name, spoil) in &faults {
-        let mut outcome = Err(String::from("a panic"));
-        let mut counts = Counts::default();
-        quiet::panics(|| {
-            outcome = histories::run(&Faulty { spoil: *spoil }, CALLS, SHARE, &mut Random::new(seed), &mut counts);
+        let (mut outcome, mut counts) = (Ok(()), Counts::default());
+        let panics = quiet::panics(|| {
+            outcome = histories::run(&Faulty { spoil: *spoil }, &EXTENT, &mut Random::new(seed), &mut counts);
         });
         match outcome {
-            Ok(()) => missed.push(*name),
+            Ok(()) => missed.push(if panics { format!("{name} (a panic)") } else { String::from(*name) }),
             Err(message) => println!("found after {} calls: {name}: {}", counts.library_calls(), short(&message)),
         }
     }
