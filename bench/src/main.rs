@@ -62,7 +62,8 @@ fn main() -> ExitCode {
         println!("\n## {}\n", table.0);
         print(rows);
     }
-    let drawn = plot::draw(&SIZES, &[0, 2, 3].map(|place| (TABLES[place].1, &tables[place])));
+    let named: Vec<(&str, &Vec<Row>)> = TABLES.iter().zip(&tables).map(|(table, rows)| (table.1, rows)).collect();
+    let drawn = plot::draw(&SIZES, &named);
     match std::fs::write(&file, drawn) {
         Ok(()) => ExitCode::SUCCESS,
         Err(error) => {
@@ -106,6 +107,6 @@ fn cell(times: &Times) -> String {
         nanos if nanos < 1e5 => format!("{:.1}", nanos / 1000.0),
         nanos => format!("{:.0}", nanos / 1000.0),
     };
-    let share = (100.0 * times.test / times.ours).min(100.0);
+    let share = 100.0 * times.test / times.ours;
     format!("{} | {share:.0} | {}", micros(times.ours), micros(times.rpds))
 }

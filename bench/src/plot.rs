@@ -3,7 +3,7 @@ use crate::Row;
 use std::fmt::Write;
 
 const PANELS: [&str; 6] = ["get", "insert", "remove", "step", "compare", "walk over all"];
-const COLORS: [&str; 3] = ["#1b6ca8", "#8a3ffc", "#2a9d4a"];
+const COLORS: [&str; 4] = ["#1b6ca8", "#e0a100", "#8a3ffc", "#2a9d4a"];
 const RPDS_COLOR: &str = "#c4452c";
 const TEST_COLOR: &str = "#888888";
 
@@ -26,7 +26,10 @@ struct Line<'a> {
     points: Vec<f64>,
 }
 
-/// Every table is a line of ours; the test and rpds's line are those of the first.
+/// The table whose lines of the test and of rpds are drawn: the first in which two versions are compared.
+const OTHERS: usize = 1;
+
+/// Every table is a line of ours.
 pub fn draw(sizes: &[usize], tables: &[(&str, &Vec<Row>)]) -> String {
     let rows = PANELS.len().div_ceil(COLUMNS);
     let (width, height) = (LEFT + COLUMNS as f64 * (WIDTH + GAP_X), TOP + rows as f64 * (HEIGHT + GAP_Y));
@@ -46,9 +49,9 @@ pub fn draw(sizes: &[usize], tables: &[(&str, &Vec<Row>)]) -> String {
 
 fn legend(svg: &mut String, tables: &[(&str, &Vec<Row>)]) {
     let ours = tables.iter().zip(COLORS).map(|((name, _), color)| (format!("ours, {name}"), color));
-    let others = [(String::from("the test alone"), TEST_COLOR), (String::from("rpds"), RPDS_COLOR)];
+    let others = [(String::from("the test alone, 3 versions"), TEST_COLOR), (String::from("rpds"), RPDS_COLOR)];
     for (place, (name, color)) in ours.chain(others).enumerate() {
-        let x = LEFT + 200.0 * place as f64;
+        let x = LEFT + 170.0 * place as f64;
         put(svg, format_args!("<rect x=\"{x}\" y=\"12\" width=\"22\" height=\"4\" fill=\"{color}\"/>"));
         put(svg, format_args!("<text x=\"{}\" y=\"19\">{name}</text>", x + 28.0));
     }
@@ -57,15 +60,15 @@ fn legend(svg: &mut String, tables: &[(&str, &Vec<Row>)]) {
 fn panel(svg: &mut String, at: (f64, f64), name: &str, sizes: &[usize], tables: &[(&str, &Vec<Row>)]) {
     axes(svg, at, name, sizes);
     let times = |table: &Vec<Row>| table.iter().find(|row| row.0 == name).map(|row| row.1.clone()).unwrap_or_default();
-    let first = times(tables[0].1);
+    let others = times(tables[OTHERS].1);
     let ours = tables.iter().zip(COLORS).map(|((_, table), color)| Line {
         color,
         dashes: "none",
         points: times(table).iter().map(|t| t.ours).collect(),
     });
-    let rpds = Line { color: RPDS_COLOR, dashes: "none", points: first.iter().map(|t| t.rpds).collect() };
-    // The test comes last, in dashes, as it hides the line of the first table otherwise.
-    let test = Line { color: TEST_COLOR, dashes: "3 5", points: first.iter().map(|t| t.test).collect() };
+    let rpds = Line { color: RPDS_COLOR, dashes: "none", points: others.iter().map(|t| t.rpds).collect() };
+    // The test comes last, in dashes, as it hides a line of ours otherwise.
+    let test = Line { color: TEST_COLOR, dashes: "3 5", points: others.iter().map(|t| t.test).collect() };
     let lines: Vec<Line> = ours.chain([rpds, test]).collect();
     for line in &lines {
         let points: Vec<(f64, f64)> =

@@ -6,8 +6,7 @@ use native.Mathlib.Omega.{arith}
 use lib.ListN.{length, length-append}
 use Rattle.trees.specs.Tree.{kept, fresh, Tree, leaf, node, made}
 use Rattle.words.specs.Layout.{nodes, slots, headerWords}
-use Rattle.words.specs.Sound.{Sound}
-use Rattle.words.specs.Owned.{Sized, Owned, idles}
+use Rattle.words.specs.Owned.{Sized, Owned}
 use Rattle.words.specs.Model.{slotting}
 use Rattle.words.specs.Commit.{frontier, raisingAll, Built, building}
 use Rattle.words.proofs.Countups.{Shares, Raised, raising-all}

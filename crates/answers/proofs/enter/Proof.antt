@@ -1,4 +1,3 @@
-use borrow.Author.Needs.{needs}
 use Rattle.answers.proofs.Entries.{header-inside, slot-inside, enter-outside, enter-free, enter-held}
 use Rattle.answers.proofs.enter.Statement.{statement}
 use Rattle.answers.proofs.enter.Tie as tie

@@ -1,5 +1,4 @@
 use borrow.Author.Needs.{needs}
-use native.Mathlib.Omega.{arith}
 use mathlib.Core.Path.{refl}
 use Rattle.commit.proofs.Placed.{builds-low, builds-inside, builds-high, builds-lower, builds-left, builds-right, builds-makable, builds-here}
 use Prim.Native.Nat.{ℕ, _<_}

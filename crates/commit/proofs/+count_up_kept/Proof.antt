@@ -1,5 +1,4 @@
 use borrow.Author.Needs.{needs}
-use native.Mathlib.Omega.{arith}
 use Rattle.commit.proofs.Lifted.{raises-low, raises-up, raises-inside, raises-high, raises-lower, raises-left, raises-right, raises-here}
 use Prim.Native.Nat.{ℕ, _<_}
 use borrow.Fn.Kinds.{In}

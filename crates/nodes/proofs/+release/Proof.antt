@@ -1,5 +1,4 @@
 use borrow.Author.Needs.{needs}
-use native.Mathlib.Omega.{arith}
 use Rattle.nodes.proofs.Released.{lower, holds-inside, holds-high, holds-left, holds-right, released-none, released-more, released-last, links-fit, sum-fits}
 use Prim.Native.Nat.{ℕ, _<_}
 use borrow.Fn.Kinds.{In}

@@ -1,6 +1,5 @@
 use borrow.Author.Needs.{needs}
-use native.Mathlib.Omega.{arith}
-use Prim.Native.Nat.{ℕ, _-_}
+use Prim.Native.Nat.{_-_}
 use Rattle.answers.proofs.Entries.{header-inside}
 use Rattle.versions.proofs.Opening.{Scanned, scan-start, scan-inside, scan-found, scan-more, scan-full}
 use Rattle.versions.proofs.lowest_slot.Statement.{statement}
