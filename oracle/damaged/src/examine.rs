@@ -89,7 +89,7 @@ impl<S: Subject> Examiner<S> {
         same("format", expected, self.subject.call(&mut lent, call))?;
         let after = lent.words();
         holds("a formatted arena is sound", checker::sound(after) && lent.guards_whole())?;
-        same("free nodes after format", n as usize, checker::free_number(after))?;
+        same("free nodes after format", n as usize, plain::free_number(after))?;
         same("slots after format", vec![None; v as usize], listings(after))
     }
 }

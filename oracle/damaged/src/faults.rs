@@ -76,6 +76,14 @@ const FAULTS: &[(&str, Spoil)] = &[
         }
         answer
     }),
+    ("free nodes gives one too many where all nodes are free", |lent, call, answer| match (call, answer) {
+        (Call::FreeNodes, Answer::Word(free)) if free == lent.words()[0] => Answer::Word(free + 1),
+        _ => answer,
+    }),
+    ("free nodes gives one too few where some are in use", |lent, call, answer| match (call, answer) {
+        (Call::FreeNodes, Answer::Word(free)) if 0 < free && free < lent.words()[0] => Answer::Word(free - 1),
+        _ => answer,
+    }),
     ("format takes a length that is one too long", |lent, call, answer| match call {
         Call::Format { n, v }
             if (1..=2047).contains(&n) && lent.words().len() as u64 == 9 + 2 * u64::from(v) + 6 * u64::from(n) =>

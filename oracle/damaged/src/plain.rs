@@ -3,6 +3,7 @@ use library::call::{ABSENT, BAD_RANGE, BAD_SHAPE, END, NO_ROOM, NO_SLOT, NO_VERS
 use library::call::{Answer, Bound, Call, End, Walk, truth};
 use library::layout::{self, NOT_HELD};
 use library::lent::arena_len;
+use std::collections::BTreeSet;
 
 const RESCALE_SLOPE: u32 = 2_625_619;
 
@@ -17,6 +18,26 @@ pub fn listings(words: &[u32]) -> Vec<Option<Listing>> {
     (0..layout::slots(words) as u32).map(of).collect()
 }
 
+/// How many nodes no held slot reaches; of a sound arena. Counted here, so that the checker and the model do not share a mistake.
+pub fn free_number(words: &[u32]) -> usize {
+    let mut reached = BTreeSet::new();
+    for s in 0..layout::slots(words) as u32 {
+        let root = layout::slot(words, s).0;
+        if root != NOT_HELD {
+            reach(words, root, &mut reached);
+        }
+    }
+    layout::nodes(words) - reached.len()
+}
+
+fn reach(words: &[u32], link: u32, reached: &mut BTreeSet<u32>) {
+    if link != 0 && reached.insert(link) {
+        let node = layout::node(words, link);
+        reach(words, node.left, reached);
+        reach(words, node.right, reached);
+    }
+}
+
 pub struct Plain {
     pub len: usize,
     pub free: usize,
@@ -25,7 +46,7 @@ pub struct Plain {
 
 impl Plain {
     pub fn of(words: &[u32]) -> Plain {
-        Plain { len: words.len(), free: checker::free_number(words), slots: listings(words) }
+        Plain { len: words.len(), free: free_number(words), slots: listings(words) }
     }
 
     pub fn expected(&self, call: Call) -> Answer {

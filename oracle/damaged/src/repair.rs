@@ -1,5 +1,6 @@
 //! Puts counts, sizes and the free list right again after the trees were damaged, so that the damage itself is all that is wrong.
-//! The words have room for the N and V that they record.
+//! The words have room for the N and V that they record. What the checker has too is written again here on purpose: a mistake that both
+//! had would put wrong what the checker then calls right.
 use crate::bases::shuffle;
 use common::random::Random;
 use library::layout::{self, HEAD, NOT_HELD, node_at, slot_at};
