@@ -100,36 +100,48 @@ const FAULTS: &[(&str, Spoil)] = &[
     }),
 ];
 
+/// What a run with a fault put in comes to. Only a difference finds the fault, since a panic can have any other cause.
+enum Discovery {
+    Difference { arenas: u64, message: String },
+    Nothing,
+    Panic,
+}
+
 pub fn run(extent: &Extent, seed: u64) -> Outcome {
     let mut missed = Vec::new();
     for demand in Demand::ALL {
-        found(&format!("the checker without {demand:?}"), Library, Some(demand), extent, seed, &mut missed);
+        let discovery = discover(Library, Some(demand), extent, seed);
+        report(&format!("the checker without {demand:?}"), discovery, &mut missed);
     }
     for (name, spoil) in FAULTS {
-        found(name, Faulty { spoil: *spoil }, None, extent, seed, &mut missed);
+        report(name, discover(Faulty { spoil: *spoil }, None, extent, seed), &mut missed);
     }
     let put_in = Demand::ALL.len() + FAULTS.len();
     println!("{put_in} faults put in, {} found", put_in - missed.len());
     if missed.is_empty() { Ok(()) } else { Err(format!("not found: {missed:?}")) }
 }
 
-/// Runs until the fault is found, or names it as missed.
-fn found<S: Subject>(
-    name: &str,
-    subject: S,
-    left_out: Option<Demand>,
-    extent: &Extent,
-    seed: u64,
-    missed: &mut Vec<String>,
-) {
+/// Runs until there is a difference, or to the end.
+fn discover<S: Subject>(subject: S, left_out: Option<Demand>, extent: &Extent, seed: u64) -> Discovery {
     let mut examiner = Examiner { subject, left_out };
-    let (mut outcome, mut counts) = (Err(String::from("a panic")), Counts::default());
-    quiet::panics(|| outcome = sweep::run(&mut examiner, extent, &mut Random::new(seed), &mut counts));
-    match outcome {
-        Ok(()) => missed.push(String::from(name)),
-        Err(message) => {
+    let (mut discovery, mut counts) = (Discovery::Panic, Counts::default());
+    quiet::panics(|| {
+        discovery = match sweep::run(&mut examiner, extent, &mut Random::new(seed), &mut counts) {
+            Ok(()) => Discovery::Nothing,
+            Err(message) => Discovery::Difference { arenas: counts.arenas, message },
+        };
+    });
+    discovery
+}
+
+/// Prints how the fault was found, or names it as missed.
+fn report(name: &str, discovery: Discovery, missed: &mut Vec<String>) {
+    match discovery {
+        Discovery::Difference { arenas, message } => {
             let short: String = message.chars().take(160).collect();
-            println!("found after {} arenas: {name}: {short}", counts.arenas);
+            println!("found after {arenas} arenas: {name}: {short}");
         }
+        Discovery::Nothing => missed.push(String::from(name)),
+        Discovery::Panic => missed.push(format!("{name} (it ended in a panic)")),
     }
 }
