@@ -2,10 +2,22 @@
 use crate::repair;
 use common::keys::Keys;
 use common::random::Random;
-use library::call::{Answer, Call};
+use library::call::{Answer, Call, truth};
 use library::layout::{HEAD, NOT_HELD, node_at, slot_at};
 use library::lent::{Lent, arena_len};
 use library::{Library, Subject};
+
+/// A base has to be sound by the checker and by the library, so that what is wrong later is the damage.
+pub fn assert_sound(words: &[u32]) {
+    assert!(checker::sound(words), "the checker calls a base unsound: {words:?}");
+    let answer = Library.call(&mut Lent::new(words), Call::Sound);
+    assert!(answer == truth(true), "the library calls a base unsound: {words:?}");
+}
+
+/// Whether N and V are what the length says, so that the words can be read by the layout.
+pub fn whole(words: &[u32]) -> bool {
+    matches!(words, [n, v, ..] if (1..=2047).contains(n) && (1..=32).contains(v) && words.len() == arena_len(*n, *v))
+}
 
 /// An arena after a short history of calls.
 pub fn by_calls(n: u32, v: u32, calls: usize, random: &mut Random) -> Vec<u32> {

@@ -1,4 +1,5 @@
 //! How much was examined.
+use crate::kinds::Kinds;
 use std::fmt::{self, Display, Formatter};
 
 #[derive(Default)]
@@ -9,6 +10,7 @@ pub struct Counts {
     pub refused_on_sound: u64,
     pub written_on_sound: u64,
     pub formatted: u64,
+    pub kinds: Kinds,
     longest: usize,
     /// How many arenas each part of the sweep had.
     parts: Vec<(&'static str, u64)>,
@@ -30,10 +32,13 @@ impl Counts {
 
 impl Display for Counts {
     fn fmt(&self, f: &mut Formatter<'_>) -> fmt::Result {
-        let Counts { arenas, sound, calls, refused_on_sound, written_on_sound, formatted, longest, parts } = self;
+        let Counts { arenas, sound, calls, refused_on_sound, written_on_sound, formatted, kinds, longest, parts } =
+            self;
         writeln!(f, "{arenas} arenas of up to {longest} words, {} of them unsound, {sound} sound", arenas - sound)?;
         let parts: Vec<String> = parts.iter().map(|(name, arenas)| format!("{arenas} {name}")).collect();
         writeln!(f, "    {}", parts.join(", "))?;
+        let (rarest, unsound) = kinds.rarest();
+        writeln!(f, "each kind of damage alone made {unsound} unsound arenas or more; the fewest: {rarest}")?;
         writeln!(
             f,
             "{calls} calls: on the unsound ones all gave UNSOUND and changed no word; on the sound ones {refused_on_sound}"

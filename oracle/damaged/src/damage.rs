@@ -3,8 +3,8 @@ use crate::repair;
 use common::random::Random;
 use library::layout::{self, HEAD, NOT_HELD, SPARE, node_at, slot_at};
 
-/// A way to change the words of a sound arena.
-pub type Damage = fn(&mut Vec<u32>, &mut Random);
+/// A way to change the words of a sound arena, and its name.
+pub type Kind = (&'static str, fn(&mut Vec<u32>, &mut Random));
 
 const KEY: usize = 0;
 const LEFT: usize = 2;
@@ -12,7 +12,7 @@ const RIGHT: usize = 3;
 const COLOR: usize = 4;
 const COUNT: usize = 5;
 
-pub const KINDS: &[(&str, Damage)] = &[
+pub const KINDS: &[Kind] = &[
     ("a bit flipped", |words, random| {
         let at = random.below(words.len());
         words[at] ^= 1 << random.below(32);
@@ -187,6 +187,11 @@ pub const KINDS: &[(&str, Damage)] = &[
     }),
     ("sound: the free list in another order", |words, random| repair::free_list(words, random)),
 ];
+
+/// Whether this kind, by its name, leaves every sound arena sound.
+pub fn keeps_sound(kind: &str) -> bool {
+    kind.starts_with("sound: ")
+}
 
 fn word(words: &mut [u32], i: u32, which: usize) -> &mut u32 {
     &mut words[node_at(i as usize) + which]

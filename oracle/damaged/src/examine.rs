@@ -1,4 +1,5 @@
 //! One arena, sound or not: the test beside the checker, and every call on it.
+use crate::bases;
 use crate::counts::Counts;
 use crate::plain::{self, Plain, listings};
 use checker::Demand;
@@ -15,12 +16,20 @@ pub struct Examiner<S> {
 }
 
 impl<S: Subject> Examiner<S> {
-    pub fn examine(&mut self, words: &[u32], random: &mut Random, counts: &mut Counts) -> Outcome {
+    /// An arena that is going to be damaged.
+    pub fn examine_base(&mut self, words: &[u32], random: &mut Random, counts: &mut Counts) -> Outcome {
+        self.examine(words, random, counts)?;
+        bases::assert_sound(words);
+        Ok(())
+    }
+
+    /// Any words; whether they are sound.
+    pub fn examine(&mut self, words: &[u32], random: &mut Random, counts: &mut Counts) -> Outcome<bool> {
         let outcome = self.compare(words, random, counts);
         outcome.map_err(|message| format!("{message}; the words: {}", shown(words)))
     }
 
-    fn compare(&mut self, words: &[u32], random: &mut Random, counts: &mut Counts) -> Outcome {
+    fn compare(&mut self, words: &[u32], random: &mut Random, counts: &mut Counts) -> Outcome<bool> {
         let sound = checker::sound_without(words, self.left_out);
         counts.arena(words.len(), sound);
         let mut lent = Lent::new(words);
@@ -32,7 +41,10 @@ impl<S: Subject> Examiner<S> {
                 self.ask(&mut lent, words, call, Answer::Refused(UNSOUND), counts)?;
             }
         }
-        if random.one_in(8) { self.format(words, random, counts) } else { Ok(()) }
+        if random.one_in(8) {
+            self.format(words, random, counts)?;
+        }
+        Ok(sound)
     }
 
     /// A call that has to give this answer and to change no word.

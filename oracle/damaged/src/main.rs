@@ -1,13 +1,15 @@
-//! `damaged short|long [SEED]`: damaged arenas given to the proved library and to the checker. Stops with a message and exit status 1
-//! at the first difference. `damaged faults [SEED]`: the same with faults put in, each of which has to be found. `damaged tiny [SEED]`:
+//! `damaged short|long [SEED] [kinds]`: damaged arenas given to the proved library and to the checker. Stops with a message and exit
+//! status 1 at the first difference. With `kinds` it prints what each kind of damage came to. `damaged faults [SEED]`: the same with faults put in, each of which has to be found. `damaged tiny [SEED]`:
 //! a few arenas, for a memory checker.
 #![forbid(unsafe_code)]
 
 mod bases;
 mod counts;
 mod damage;
+mod damages;
 mod examine;
 mod faults;
+mod kinds;
 mod plain;
 mod repair;
 mod sweep;
@@ -24,8 +26,9 @@ use std::process::ExitCode;
 use std::time::Instant;
 use sweep::Extent;
 
-const TINY: Extent = Extent { flips: &[(1, 1, 3, 1), (8, 3, 40, 4)], damaged: 1_500, random: 500 };
-const SHORT: Extent = Extent { flips: &[(1, 1, 3, 1), (8, 3, 40, 1), (40, 8, 120, 1)], damaged: 20_000, random: 5_000 };
+const TINY: Extent = Extent { flips: &[(1, 1, 3, 1), (8, 3, 40, 4)], damaged: 1_500, random: 500, every_kind: false };
+const SHORT: Extent =
+    Extent { flips: &[(1, 1, 3, 1), (8, 3, 40, 1), (40, 8, 120, 1)], damaged: 20_000, random: 5_000, every_kind: true };
 const LONG: Extent = Extent {
     flips: &[
         (1, 1, 3, 1),
@@ -39,22 +42,27 @@ const LONG: Extent = Extent {
     ],
     damaged: 1_300_000,
     random: 200_000,
+    every_kind: true,
 };
 
 fn main() -> ExitCode {
     let words: Vec<String> = std::env::args().skip(1).collect();
-    let Some((what, seed)) = arguments(&words) else {
-        eprintln!("usage: damaged tiny|short|long|faults [SEED]");
+    let (words, table) = match &words[..] {
+        [before @ .., last] if last == "kinds" => (before, true),
+        all => (all, false),
+    };
+    let Some((what, seed)) = arguments(words) else {
+        eprintln!("usage: damaged tiny|short|long|faults [SEED] [kinds]");
         return ExitCode::FAILURE;
     };
     quiet::install();
     let outcome = panic::catch_unwind(|| match what {
         "tiny" => {
             lent::without_guards();
-            run(&TINY, seed)
+            run(&TINY, seed, table)
         }
-        "short" => run(&SHORT, seed),
-        "long" => run(&LONG, seed),
+        "short" => run(&SHORT, seed, table),
+        "long" => run(&LONG, seed, table),
         _ => faults::run(&SHORT, seed),
     });
     match outcome.unwrap_or(Err(String::from("a panic where none is expected"))) {
@@ -75,11 +83,17 @@ fn arguments(words: &[String]) -> Option<(&str, u64)> {
     ["tiny", "short", "long", "faults"].contains(&what.as_str()).then_some((what, seed))
 }
 
-fn run(extent: &Extent, seed: u64) -> Outcome {
+fn run(extent: &Extent, seed: u64, table: bool) -> Outcome {
     let (start, mut counts) = (Instant::now(), Counts::default());
     let mut examiner = Examiner { subject: Library, left_out: None };
     sweep::run(&mut examiner, extent, &mut Random::new(seed), &mut counts)?;
     print!("{counts}");
+    if table {
+        print!("{}", counts.kinds);
+    }
+    if extent.every_kind {
+        counts.kinds.each_spoils()?;
+    }
     println!("0 differences; {:.0} s", start.elapsed().as_secs_f64());
     Ok(())
 }
