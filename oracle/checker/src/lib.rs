@@ -18,6 +18,7 @@ pub enum Demand {
     SlotsInLimits,
     Length,
     LinksNameNodes,
+    TreesFinite,
     ColorsKnown,
     RootsBlack,
     KeysAscend,
@@ -27,17 +28,19 @@ pub enum Demand {
     SizeOfNotHeld,
     CountsTrue,
     FreeCountsZero,
+    FreeLinksNameNodes,
     FreeListed,
     FreeListedOnce,
     OnlyFreeListed,
 }
 
 impl Demand {
-    pub const ALL: [Demand; 16] = [
+    pub const ALL: [Demand; 18] = [
         Demand::NodesInLimits,
         Demand::SlotsInLimits,
         Demand::Length,
         Demand::LinksNameNodes,
+        Demand::TreesFinite,
         Demand::ColorsKnown,
         Demand::RootsBlack,
         Demand::KeysAscend,
@@ -47,6 +50,7 @@ impl Demand {
         Demand::SizeOfNotHeld,
         Demand::CountsTrue,
         Demand::FreeCountsZero,
+        Demand::FreeLinksNameNodes,
         Demand::FreeListed,
         Demand::FreeListedOnce,
         Demand::OnlyFreeListed,
@@ -140,11 +144,14 @@ impl Checker<'_> {
     /// A tree with more than N entries has a node twice, and so keys that do not ascend or no end.
     fn tree(&self, link: u32, room: &mut usize, reached: &mut [bool]) -> Option<Tree> {
         let i = link as usize;
-        if i == 0 || (i > self.nodes() && self.left_out == Some(Demand::LinksNameNodes)) {
+        if i == 0 {
             return Some(Tree::Leaf);
         }
-        if i > self.nodes() || *room == 0 {
-            return None;
+        if i > self.nodes() {
+            return self.cut_off(Demand::LinksNameNodes);
+        }
+        if *room == 0 {
+            return self.cut_off(Demand::TreesFinite);
         }
         *room -= 1;
         reached[i] = true;
@@ -155,6 +162,11 @@ impl Checker<'_> {
         let left = self.tree(self.node_word(i, 2), room, reached)?;
         let right = self.tree(self.node_word(i, 3), room, reached)?;
         Some(Tree::node(color != RED, left, self.node_word(i, 0), right))
+    }
+
+    /// A link that cannot be followed counts as none where its demand is left out, so that the walk ends in any case.
+    fn cut_off(&self, demand: Demand) -> Option<Tree> {
+        self.demands(demand, false).then_some(Tree::Leaf)
     }
 
     /// "An empty tree, or a root that is black"; keys ascending; the colours' rules; sizes.
@@ -192,28 +204,23 @@ impl Checker<'_> {
 
     /// "The free nodes are exactly the nodes not reachable from a held slot; each is listed once."
     fn free(&self, trees: &Trees) -> bool {
-        let mut listed = vec![0; self.nodes() + 1];
+        let mut listed = vec![false; self.nodes() + 1];
         let mut link = self.words[2] as usize;
-        while link != 0 {
-            if link > self.nodes() {
-                return false;
-            }
-            listed[link] += 1;
-            if listed[link] > 1 {
-                // A list that comes back to a node never ends.
-                if !self.demands(Demand::FreeListedOnce, false) {
-                    return false;
-                }
-                break;
-            }
+        while link != 0 && link <= self.nodes() && !listed[link] {
+            listed[link] = true;
             link = self.node_word(link, 2) as usize;
         }
-        (1..=self.nodes()).all(|i| {
-            if trees.reached[i] {
-                self.demands(Demand::OnlyFreeListed, listed[i] == 0)
-            } else {
-                self.demands(Demand::FreeListed, listed[i] > 0)
-            }
-        })
+        let named = link <= self.nodes();
+        // A list that comes back to a node never ends.
+        let comes_back = link != 0 && named;
+        self.demands(Demand::FreeLinksNameNodes, named)
+            && self.demands(Demand::FreeListedOnce, !comes_back)
+            && (1..=self.nodes()).all(|i| {
+                if trees.reached[i] {
+                    self.demands(Demand::OnlyFreeListed, !listed[i])
+                } else {
+                    self.demands(Demand::FreeListed, listed[i])
+                }
+            })
     }
 }
