@@ -39,14 +39,13 @@ fn reach(words: &[u32], link: u32, reached: &mut BTreeSet<u32>) {
 }
 
 pub struct Plain {
-    pub len: usize,
-    pub free: usize,
-    pub slots: Vec<Option<Listing>>,
+    free: usize,
+    slots: Vec<Option<Listing>>,
 }
 
 impl Plain {
     pub fn of(words: &[u32]) -> Plain {
-        Plain { len: words.len(), free: free_number(words), slots: listings(words) }
+        Plain { free: free_number(words), slots: listings(words) }
     }
 
     pub fn expected(&self, call: Call) -> Answer {
@@ -55,7 +54,6 @@ impl Plain {
 
     fn answer(&self, call: Call) -> Result<Answer, u32> {
         match call {
-            Call::Format { n, v } => format(self.len, n, v),
             Call::New => self.handed_out(),
             Call::Hold { s } => self.named(s).and_then(|_| self.handed_out()),
             Call::Release { s } => self.named(s).map(|_| Answer::Done),
@@ -70,7 +68,7 @@ impl Plain {
             Call::Equal { s, t } => Ok(truth(self.named(s)? == self.named(t)?)),
             Call::Step { end, walk } => step(self.named(walk.slot)?, end, &walk),
             Call::RescaleMark { s } => Ok(truth(find(self.named(s)?, RESCALE_SLOPE).is_some())),
-            Call::Sound => Ok(truth(true)),
+            Call::Format { .. } | Call::Sound => unreachable!("these are asked on unsound arenas too, and so apart"),
         }
     }
 
@@ -93,11 +91,11 @@ impl Plain {
         let mut slots = self.slots.clone();
         let list = |s: u32| self.slots[s as usize].clone().expect("an accepted call names a held slot");
         let new = match call {
-            Call::Format { v, .. } => return vec![None; v as usize],
             Call::Release { s } => {
                 slots[s as usize] = None;
                 return slots;
             }
+            Call::New => Listing::new(),
             Call::Hold { s } => list(s),
             Call::Insert { s, key, value } => {
                 let kept = list(s).into_iter().filter(|e| e.0 != key);
@@ -106,7 +104,7 @@ impl Plain {
                 list
             }
             Call::Remove { s, key } => list(s).into_iter().filter(|e| e.0 != key).collect(),
-            _ => Listing::new(),
+            _ => unreachable!("no other call on a sound arena writes"),
         };
         if let Answer::Word(slot) = answer {
             slots[slot as usize] = Some(new);
