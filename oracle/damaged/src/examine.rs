@@ -128,7 +128,9 @@ fn calls(words: &[u32], random: &mut Random) -> Vec<Call> {
     let key = if random.one_in(4) { random.word() } else { any(random) };
     let mut bound = || Bound { kind: random.below(4) as u32, key: any(random) };
     let (start, end) = (bound(), bound());
-    let walk = Walk { front: (random.below(2) as u32, any(random)), ..Walk::new(s, start, end) };
+    // Mostly none, since with both given hardly a key is left between them.
+    let mut last_key = || ([0, 0, 0, 1, 2][random.below(5)], any(random));
+    let walk = Walk { slot: s, start, end, front: last_key(), back: last_key() };
     let mut calls = vec![
         Call::New,
         Call::Hold { s },

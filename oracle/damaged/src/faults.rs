@@ -5,7 +5,7 @@ use crate::sweep::{self, Extent};
 use checker::Demand;
 use common::quiet;
 use common::random::Random;
-use library::call::{ABSENT, Answer, Call, NO_VERSION, UNSOUND};
+use library::call::{ABSENT, Answer, Call, End, NO_VERSION, UNSOUND, Walk};
 use library::layout::{HEAD, node_at};
 use library::lent::{Lent, arena_len};
 use library::outcome::Outcome;
@@ -82,6 +82,18 @@ const FAULTS: &[(&str, Spoil)] = &[
     }),
     ("free nodes gives one too few where some are in use", |lent, call, answer| match (call, answer) {
         (Call::FreeNodes, Answer::Word(free)) if 0 < free && free < lent.words()[0] => Answer::Word(free - 1),
+        _ => answer,
+    }),
+    ("a step at the back forgets the last key given there", |lent, call, answer| match call {
+        Call::Step { end: End::Back, walk } => {
+            Library.call(lent, Call::Step { end: End::Back, walk: Walk { back: (0, 0), ..walk } })
+        }
+        _ => answer,
+    }),
+    ("a step at the front goes on beyond the last key given at the back", |lent, call, answer| match call {
+        Call::Step { end: End::Front, walk } => {
+            Library.call(lent, Call::Step { end: End::Front, walk: Walk { back: (0, 0), ..walk } })
+        }
         _ => answer,
     }),
     ("format takes a length that is one too long", |lent, call, answer| match call {
