@@ -79,9 +79,10 @@ fn flips<S: Subject>(
     Ok(())
 }
 
-/// Random words: of any length, with N and V that fit, or small enough to be links.
+/// Random words: of any length, with N and V that fit, or small enough to be links. Most arenas are small, where chance finds more.
 fn random_words(random: &mut Random) -> Vec<u32> {
-    let (n, v) = (1 + random.below(12) as u32, 1 + random.below(4) as u32);
+    let (most_nodes, most_slots) = if random.one_in(8) { (2047, 32) } else { (12, 4) };
+    let (n, v) = (1 + random.below(most_nodes) as u32, 1 + random.below(most_slots) as u32);
     let small = [4, n + 2, 40, u32::MAX][random.below(4)];
     let len = if random.one_in(4) { random.below(120) } else { arena_len(n, v) };
     let mut words: Vec<u32> = (0..len).map(|_| random.word() % small).collect();
