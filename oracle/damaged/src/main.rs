@@ -26,7 +26,7 @@ use std::process::ExitCode;
 use std::time::Instant;
 use sweep::Extent;
 
-const TINY: Extent = Extent { flips: &[(1, 1, 3, 1), (8, 3, 40, 4)], damaged: 1_500, random: 500, every_kind: false };
+const TINY: Extent = Extent { flips: &[(1, 1, 3, 1), (8, 3, 40, 4)], damaged: 1_200, random: 500, every_kind: false };
 const SHORT: Extent =
     Extent { flips: &[(1, 1, 3, 1), (8, 3, 40, 1), (40, 8, 120, 1)], damaged: 20_000, random: 5_000, every_kind: true };
 const LONG: Extent = Extent {
