@@ -66,12 +66,6 @@ pub fn sound_without(words: &[u32], left_out: Option<Demand>) -> bool {
     Checker { words, left_out }.all()
 }
 
-/// How many nodes no held slot reaches; of a sound arena. Only for putting faults in: the models count for themselves.
-pub fn free_number(words: &[u32]) -> usize {
-    let checker = Checker { words, left_out: None };
-    checker.nodes() - checker.trees().expect("a sound arena").reached.iter().filter(|r| **r).count()
-}
-
 struct Checker<'a> {
     words: &'a [u32],
     left_out: Option<Demand>,

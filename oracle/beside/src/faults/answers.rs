@@ -4,6 +4,7 @@ use library::call::{ABSENT, BAD_RANGE, END, NO_ROOM, NO_SLOT, NO_VERSION};
 use library::call::{Answer, Call, End, truth};
 use library::layout;
 use library::lent::Lent;
+use library::{Library, Subject};
 
 pub const FAULTS: &[(&str, Spoil)] = &[
     ("a handed-out slot is one too high", |_, _, call, answer| match (call, answer) {
@@ -200,7 +201,7 @@ fn get_before(words: &[u32], _: &mut Lent, call: Call, answer: Answer) -> Answer
 
 /// NO_ROOM, and the words as they were, where exactly so many nodes are free.
 fn refused_at(reserve: usize, before: &[u32], lent: &mut Lent, answer: Answer) -> Answer {
-    if checker::free_number(before) != reserve {
+    if Library.call(&mut Lent::new(before), Call::FreeNodes) != Answer::Word(reserve as u32) {
         return answer;
     }
     lent.words_mut().copy_from_slice(before);
