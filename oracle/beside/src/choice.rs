@@ -88,9 +88,12 @@ impl History {
         if self.keep { largest().unwrap_or(0) } else { self.newest }
     }
 
-    /// A slot that is held, most often not the favourite.
+    /// A slot that is held, if there is one, and most often not the favourite.
     fn old(&self, model: &Model, random: &mut Random) -> u32 {
         let held = model.held();
+        if held.is_empty() {
+            return self.slot(model, random);
+        }
         let s = held[random.below(held.len())];
         if s == self.favourite(model) && !random.one_in(8) { held[random.below(held.len())] } else { s }
     }
