@@ -1,6 +1,6 @@
 //! The calls one by one, ours beside rpds's.
 use crate::arena::{Arena, Map, Plan, call, expect, height};
-use crate::timing::{least_of, mean_of_least, see, time};
+use crate::timing::{least_of, least_times, see, time};
 use library::call::{Answer, Call, End, UNBOUNDED, Walk};
 use std::hint::black_box;
 use std::ops::Bound::{Excluded, Unbounded};
@@ -48,18 +48,19 @@ fn accepted(arena: &mut Arena, made: Call) -> (Duration, Answer) {
     (taken, answer)
 }
 
-/// The test's own time on the arena.
-fn test(arena: &mut Arena) -> f64 {
+/// The mean of the least times of so many calls of ours, and the least time of the test on the same arena. A round makes them all, so that a
+/// slower while of the machine is in both.
+fn beside_test(arena: &mut Arena, calls: usize, mut ours: impl FnMut(&mut Arena, usize) -> Duration) -> (f64, f64) {
     expect(&mut arena.lent, Call::Sound, Answer::Word(1));
-    mean_of_least(1, |_| timed(arena, Call::Sound).0)
+    let least = least_times(calls + 1, |i| if i < calls { ours(arena, i) } else { timed(arena, Call::Sound).0 });
+    (least[..calls].iter().sum::<f64>() / calls as f64, least[calls])
 }
 
 /// A reading call for each of some keys, and what rpds does for a key.
 fn reading(plan: Plan, ours: impl Fn(u32, u32) -> Call, rpds: impl Fn(&Map, u32)) -> Times {
     let mut arena = Arena::new(plan, 0);
     let (s, keys) = (arena.newest(), arena.some_keys(KEYS));
-    let test = test(&mut arena);
-    let ours = mean_of_least(KEYS, |i| accepted(&mut arena, ours(s, keys[i])).0);
+    let (ours, test) = beside_test(&mut arena, KEYS, |arena, i| accepted(arena, ours(s, keys[i])).0);
     let rpds = least_of(KEYS, || keys.iter().for_each(|key| rpds(black_box(arena.newest_map()), *key)));
     Times { ours, test, rpds }
 }
@@ -93,14 +94,13 @@ fn step(plan: Plan) -> Times {
 fn walk(plan: Plan) -> Times {
     let mut arena = Arena::new(plan, 0);
     let slot = arena.newest();
-    let test = test(&mut arena);
     let keys = arena.keys.clone();
     // One step more than there are entries gives END.
     let steps = keys.len() + 1;
-    let ours = mean_of_least(steps, |i| {
+    let (ours, test) = beside_test(&mut arena, steps, |arena, i| {
         let start = Walk::new(slot, UNBOUNDED, UNBOUNDED);
         let walk = if i == 0 { start } else { start.stepped(End::Front, keys[i - 1]) };
-        let (taken, answer) = timed(&mut arena, Call::Step { end: End::Front, walk });
+        let (taken, answer) = timed(arena, Call::Step { end: End::Front, walk });
         let given = if let Answer::Entry(key, _) = answer { Some(key) } else { None };
         assert_eq!(given, keys.get(i).copied(), "the walk gives every entry, then END");
         taken
@@ -119,8 +119,7 @@ fn compare(plan: Plan) -> Times {
         accepted(&mut arena, Call::Hold { s: t });
     }
     expect(&mut arena.lent, Call::Compare { s, t }, Answer::Word(one.cmp(&other) as i32 as u32));
-    let test = test(&mut arena);
-    let ours = mean_of_least(1, |_| timed(&mut arena, Call::Compare { s, t }).0);
+    let (ours, test) = beside_test(&mut arena, 1, |arena, _| timed(arena, Call::Compare { s, t }).0);
     let rpds = least_of(1, || see(black_box(&one).cmp(black_box(&other))));
     Times { ours, test, rpds }
 }
@@ -135,9 +134,9 @@ fn with_a_slot(plan: Plan, reserve: usize) -> Arena {
 }
 
 /// A call that hands out a slot, timed for each key, and the release of that slot: which of the two is asked for.
-fn handing_out(arena: &mut Arena, keys: &[u32], ours: impl Fn(u32, u32) -> Call, releases: bool) -> f64 {
+fn handing_out(arena: &mut Arena, keys: &[u32], ours: impl Fn(u32, u32) -> Call, releases: bool) -> (f64, f64) {
     let s = arena.newest();
-    mean_of_least(keys.len(), |i| {
+    beside_test(arena, keys.len(), |arena, i| {
         let (making, answer) = accepted(arena, ours(s, keys[i]));
         let Answer::Word(slot) = answer else { unreachable!("a slot is handed out") };
         let (releasing, _) = accepted(arena, Call::Release { s: slot });
@@ -160,32 +159,32 @@ fn made_and_dropped(map: &Map, keys: &[u32], make: impl Fn(&Map, u32) -> Map) ->
 
 fn insert(plan: Plan) -> Times {
     let mut arena = with_a_slot(plan, height(plan.entries) + 1);
-    let (test, keys) = (test(&mut arena), arena.other_keys(KEYS));
-    let ours = handing_out(&mut arena, &keys, |s, key| Call::Insert { s, key, value: 7 }, false);
+    let keys = arena.other_keys(KEYS);
+    let (ours, test) = handing_out(&mut arena, &keys, |s, key| Call::Insert { s, key, value: 7 }, false);
     let (rpds, _) = made_and_dropped(arena.newest_map(), &keys, |map, key| map.insert(key, 7));
     Times { ours, test, rpds }
 }
 
 fn remove(plan: Plan) -> Times {
     let mut arena = with_a_slot(plan, 6 * height(plan.entries) + 2);
-    let (test, keys) = (test(&mut arena), arena.some_keys(KEYS));
-    let ours = handing_out(&mut arena, &keys, |s, key| Call::Remove { s, key }, false);
+    let keys = arena.some_keys(KEYS);
+    let (ours, test) = handing_out(&mut arena, &keys, |s, key| Call::Remove { s, key }, false);
     let (rpds, _) = made_and_dropped(arena.newest_map(), &keys, |map, key| map.remove(&key));
     Times { ours, test, rpds }
 }
 
 fn new(plan: Plan) -> Times {
     let mut arena = with_a_slot(plan, 0);
-    let (test, keys) = (test(&mut arena), arena.some_keys(KEYS));
-    let ours = handing_out(&mut arena, &keys, |_, _| Call::New, false);
+    let keys = arena.some_keys(KEYS);
+    let (ours, test) = handing_out(&mut arena, &keys, |_, _| Call::New, false);
     let (rpds, _) = made_and_dropped(arena.newest_map(), &keys, |_, _| Map::new());
     Times { ours, test, rpds }
 }
 
 fn hold(plan: Plan) -> Times {
     let mut arena = with_a_slot(plan, 0);
-    let (test, keys) = (test(&mut arena), arena.some_keys(KEYS));
-    let ours = handing_out(&mut arena, &keys, |s, _| Call::Hold { s }, false);
+    let keys = arena.some_keys(KEYS);
+    let (ours, test) = handing_out(&mut arena, &keys, |s, _| Call::Hold { s }, false);
     let (rpds, _) = made_and_dropped(arena.newest_map(), &keys, |map, _| map.clone());
     Times { ours, test, rpds }
 }
@@ -193,8 +192,8 @@ fn hold(plan: Plan) -> Times {
 /// A version that an insert of a new key has just made is given up.
 fn release(plan: Plan) -> Times {
     let mut arena = with_a_slot(plan, height(plan.entries) + 1);
-    let (test, keys) = (test(&mut arena), arena.other_keys(KEYS));
-    let ours = handing_out(&mut arena, &keys, |s, key| Call::Insert { s, key, value: 7 }, true);
+    let keys = arena.other_keys(KEYS);
+    let (ours, test) = handing_out(&mut arena, &keys, |s, key| Call::Insert { s, key, value: 7 }, true);
     let (_, rpds) = made_and_dropped(arena.newest_map(), &keys, |map, key| map.insert(key, 7));
     Times { ours, test, rpds }
 }

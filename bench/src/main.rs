@@ -82,11 +82,11 @@ fn measure(plan: fn(usize) -> Plan) -> Vec<Row> {
     CALLS.iter().map(row).collect()
 }
 
+/// A call and its test are kept from one pass, as the one's share of the other is asked for.
 fn keep_least(times: &mut [Times], again: &[Times]) {
     for (kept, other) in times.iter_mut().zip(again) {
-        kept.ours = kept.ours.min(other.ours);
-        kept.test = kept.test.min(other.test);
-        kept.rpds = kept.rpds.min(other.rpds);
+        let rpds = kept.rpds.min(other.rpds);
+        *kept = Times { rpds, ..if other.ours < kept.ours { *other } else { *kept } };
     }
 }
 

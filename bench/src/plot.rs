@@ -51,7 +51,7 @@ fn legend(svg: &mut String, tables: &[(&str, &Vec<Row>)]) {
     let ours = tables.iter().zip(COLORS).map(|((name, _), color)| (format!("ours, {name}"), color));
     let others = [(String::from("the test alone, 3 versions"), TEST_COLOR), (String::from("rpds"), RPDS_COLOR)];
     for (place, (name, color)) in ours.chain(others).enumerate() {
-        let x = LEFT + 170.0 * place as f64;
+        let x = LEFT + 185.0 * place as f64;
         put(svg, format_args!("<rect x=\"{x}\" y=\"12\" width=\"22\" height=\"4\" fill=\"{color}\"/>"));
         put(svg, format_args!("<text x=\"{}\" y=\"19\">{name}</text>", x + 28.0));
     }

@@ -33,15 +33,15 @@ fn rounds(mut round: impl FnMut()) {
     }
 }
 
-/// The mean, in nanoseconds, of the least times of so many calls: each round makes them all and gives the time of each.
-pub fn mean_of_least(calls: usize, mut call: impl FnMut(usize) -> Duration) -> f64 {
+/// The least time of each of so many calls, in nanoseconds: each round makes them all and gives the time of each.
+pub fn least_times(calls: usize, mut call: impl FnMut(usize) -> Duration) -> Vec<f64> {
     let mut best = vec![Duration::MAX; calls];
     rounds(|| {
         for (number, best) in best.iter_mut().enumerate() {
             *best = (*best).min(call(number));
         }
     });
-    best.iter().sum::<Duration>().as_nanos() as f64 / calls as f64
+    best.iter().map(|taken| taken.as_nanos() as f64).collect()
 }
 
 /// The least time, in nanoseconds, of a call that is too short to be timed alone: a round makes so many of them.
