@@ -1,13 +1,14 @@
 // Runs the soundness test on arenas built by hand, each bullet of document 01 broken one at a time, and writes each verdict on a line.
-// The expected lines are read off document 01, beside each case in `tables`.
-mod tables;
+// The expected lines are read off document 01, beside each case in `arenas` and `broken`.
+mod arenas;
+mod broken;
 
-use self::tables::BASE;
-use self::tables::CHANGED;
-use self::tables::CHANGES;
-use self::tables::EMPTY;
-use self::tables::FULL;
-use self::tables::SHARED;
+use self::arenas::BASE;
+use self::arenas::EMPTY;
+use self::arenas::FULL;
+use self::arenas::SHARED;
+use self::broken::CHANGED;
+use self::broken::CHANGES;
 use books::Tested;
 use soundness::test;
 ghost use Prim.Native.Nat.{_<_, _≤_};
