@@ -24,7 +24,7 @@ unfoldable pub number : List ℕ → Option (ℕ × List ℕ)
 number [] = none
 number (b ∷ rest) = if isDigit b then numberFrom (b - 48) rest else none
 
--- The same with the place after it in the line.
+-- What was found at a place of the line, as the number and what follows it.
 abbrev pub foundIn : List ℕ → Found → Option (ℕ × List ℕ)
 foundIn line (Found.Number n next) = some (n, drop next line)
 foundIn line Found.Nothing = none

@@ -16,7 +16,7 @@ pub record Raisable (ws : List ℕ) (i : ℕ) : Type 0 where
   pub inside : NodeInside ws i
   pub room : 1 ≤ i → count ws i + 1 < 4294967296
 
--- The colour that a word stands for, in a node that can be written.
+-- There is a first free node, and the colour to be written is red or black.
 pub record Makable (ws : List ℕ) (d : Node) : Type 0 where
   pub header : headerWords ≤ length ws
   pub inside : NodeInside ws (head ws)

@@ -67,11 +67,14 @@ module _ (Valid : ℕ → Tree → ℕ → Type 0) (n v i : ℕ) (ws ws' P : Lis
   pub else-frame : (j : ℕ) (t : Tree) → (j ≡ 0) ⊎ Else j → Reads n ws j t → Reads n ws' j t
   else-frame = frame n ws ws' Else (λ j e. only-agree n i ws ws' d low high j (e .0 .0) (e .1)) else-left else-right
 
-  pub else-live : (j : ℕ) → Live n ws' j → (j ≡ i → ⊥) → Else j
+  else-live : (j : ℕ) → Live n ws' j → (j ≡ i → ⊥) → Else j
   else-live j l f = ((l .0, l .1, omega (arith, only-count n i ws ws' d low high j (l .0) f)), f)
 
-  pub else-tree : (j : ℕ) → Else j → (t : Tree) × Reads n ws' j t × (height t ≤ o .bound)
-  else-tree j e = let t = o .trees j (e .0) in (t .0, else-frame j (t .0) (inr e) (t .1), t .2)
+  pub else-tree : (j : ℕ) → Live n ws' j → (j ≡ i → ⊥) → (t : Tree) × Reads n ws' j t × (height t ≤ o .bound)
+  else-tree j l f =
+      let e = else-live j l f in
+      let t = o .trees j (e .0) in
+      (t .0, else-frame j (t .0) (inr e) (t .1), t .2)
 
   pub else-version : (s : ℕ) → s < v → Version Valid n ws' s
   else-version s h =
@@ -171,36 +174,7 @@ module _ (Valid : ℕ → Tree → ℕ → Type 0) (n v i : ℕ) (ws ws' R : Lis
 
   freed-tree : (j : ℕ) → Live n ws' j → (t : Tree) × Reads n ws' j t × (height t ≤ o .bound)
   freed-tree j l =
-      else-tree
-      Valid
-      n
-      v
-      i
-      ws
-      ws'
-      (i ∷ R)
-      o
-      (u .only)
-      low
-      high
-      freed-lone
-      j
-      (else-live
-      Valid
-      n
-      v
-      i
-      ws
-      ws'
-      (i ∷ R)
-      o
-      (u .only)
-      low
-      high
-      freed-lone
-      j
-      l
-      (λ e. let a = ap (count ws') e in let z = u .count-is in omega arith))
+      else-tree Valid n v i ws ws' (i ∷ R) o (u .only) low high freed-lone j l (λ e. let a = ap (count ws') e in let z = u .count-is in omega arith)
 
   pub freed-owned : Owned Valid n v ws' L
   freed-owned =

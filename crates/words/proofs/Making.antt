@@ -17,7 +17,7 @@ use Rattle.words.proofs.Holding.{agree-left}
 use Rattle.words.proofs.OwnedLaws.{when-pos, when-zero, idle-pos, idle-zero, chain-kept, live-pending, pending-tree}
 use Rattle.words.proofs.Changes.{Outside, outside-shaped, only-outside, only-agree, only-count, names-change, Made, is-made}
 use Rattle.words.proofs.Recounting.{owned-long, pending-first}
-use Rattle.words.proofs.Freeing.{else-frame, else-live, else-tree, else-version}
+use Rattle.words.proofs.Freeing.{else-frame, else-tree, else-version}
 
 module _ (Valid : ℕ → Tree → ℕ → Type 0) (n v i : ℕ) (c : Color) (l : ℕ) (e : Entry) (r : ℕ) (ws ws' R F : List ℕ)
     (o : Owned Valid n v ws (l ∷ (r ∷ R))) (u : Made i c l e r ws ws') (taken : o .free ≡ i ∷ F) where
@@ -141,7 +141,7 @@ module _ (Valid : ℕ → Tree → ℕ → Type 0) (n v i : ℕ) (c : Color) (l 
           (node (kept i) c (tl .0) e (tr .0), rw z (made-tree (tl .0) (tr .0) (tl .1) (tr .1)), omega (arith, tl .2, tr .2))
       go (no f) =
           let t =
-          else-tree Valid n v i ws ws' (l ∷ (r ∷ R)) o (u .only) low high lone j (else-live Valid n v i ws ws' (l ∷ (r ∷ R)) o (u .only) low high lone j a f) in
+          else-tree Valid n v i ws ws' (l ∷ (r ∷ R)) o (u .only) low high lone j a f in
           (t .0, t .1, omega (arith, t .2))
 
   made-owned : Owned Valid n v ws' (i ∷ R)
