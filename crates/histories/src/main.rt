@@ -49,6 +49,9 @@ const ALL_SMALL_STEPS: u32 = 3000;
 
 const LARGE_STEPS: u32 = 2500;
 
+// The large version is listed at every so many steps, the last among them, since each entry of a walk costs a test of the largest arena.
+const LISTED: u32 = 20;
+
 // Far above any count here.
 const MOST: u32 = 1000000000;
 
@@ -372,11 +375,19 @@ fn small_steps(ws: &mut [u32], table: &mut [u32], h: History, from: u32, to: u32
     next
 }
 
+// Where a step of the large history is one to list at, the current version must have the entries of the table.
+fn check_listing(ws: &[u32], table: &[u32], h: History, step: u32) -> History {
+    if step % LISTED != LISTED - 1 {
+        return h;
+    }
+    expect(h, lists(ws, h.cur, table))
+}
+
 // One step of the large history, and its tests.
 fn large_step(ws: &mut [u32], table: &mut [u32], h: History, step: u32) -> History {
     let a = change(ws, table, h, LARGE_KEYS as u32, more(step));
     let b = check_size(ws, table, a);
-    expect(b, lists(ws, b.cur, table))
+    check_listing(ws, table, b, step)
 }
 
 // The steps of the large history.
