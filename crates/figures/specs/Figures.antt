@@ -1,4 +1,4 @@
--- Document 01, "Figures to hold": the starred ones, as rows of a single table under a single claim. `crates/call_cases` runs the others.
+-- Document 01, "Figures to hold": the starred ones, as rows of a single table under a single claim. `tests/c/cases.c` runs the others.
 use mathlib.Core.Path.{_≡_}
 use mathlib.Core.List.{List, [], _∷_}
 use mathlib.Core.Option.{none}
