@@ -6,10 +6,11 @@ use native.Mathlib.Omega.{arith}
 use borrow.Author.Tests.{lt-ltb, le-ltb}
 use Rattle.heights.specs.Choice.{if_then_else_}
 use Rattle.trees.specs.Tree.{Entry, Color, red, black, Place, fresh, Tree, leaf, node, lf, rt, isRed, paint, one, made}
-use Rattle.trees.specs.Shape.{Rb, rb-red, rb-black}
+use Rattle.trees.specs.Shape.{Rb}
 use Rattle.trees.specs.Lookup.{has, path}
-use Rattle.trees.specs.Insert.{ins, insert}
+use Rattle.trees.specs.Insert.{risen, ins, insert}
 use Rattle.trees.proofs.InsertCases.{Balance, still, turned, Ins, inserted}
+use Rattle.trees.proofs.InsertLaws.{parts, not-red}
 
 -- Whether the root is made by this call: 1 or 0.
 abbrev top : Tree → ℕ
@@ -44,24 +45,38 @@ module _ (k : ℕ) (p : Place) (c : Color) (l : Tree) (e : Entry) (r : Tree) whe
   unfolding path
   path-here h = rw (le-ltb k (e .key) (omega arith), le-ltb (e .key) k (omega arith))
 
+hot-risen : (a : Tree) (x : Entry) (b : Tree) (y : Entry) (c : Tree) (z : Entry) (d : Tree) → Hot (risen a x b y c z d)
+hot-risen a x b y c z d = hot-red (node fresh black a x b) y (node fresh black c z d) (never refl) (never refl)
+
 -- `balance` after one child grew makes no further node.
 same-left : {n : ℕ} {l r u : Tree} {e : Entry} → Balance (node fresh black l e r) u → Hot l → Rb n r → (made u ≡ suc (made l + made r)) × Hot u
-same-left (Balance.ll {a = a} {b = b} {c = c} {d = d} {x = x} {y = y} {z = z}) h i =
-    (omega (arith, h .root, h .left refl), hot-red (node fresh black a x b) y (node fresh black c z d) (never refl) (never refl))
-same-left (Balance.lr {a = a} {b = b} {c = c} {d = d} {x = x} {y = y} {z = z} j) h i =
-    (omega (arith, h .root, h .right refl), hot-red (node fresh black a x b) y (node fresh black c z d) (never refl) (never refl))
-same-left (Balance.rl j) h (rb-red i k a b) = absurd (true≢false i)
-same-left (Balance.rr j m) h (rb-red i k a b) = absurd (true≢false k)
+same-left Balance.ll h i = (omega (arith, h .root, h .left refl), hot-risen _ _ _ _ _ _ _)
+same-left (Balance.lr j) h i = (omega (arith, h .root, h .right refl), hot-risen _ _ _ _ _ _ _)
+same-left (Balance.rl j) h i = absurd (true≢false (not-red i .0))
+same-left (Balance.rr j k) h i = absurd (true≢false (not-red i .1))
 same-left {l = l} {r = r} {e = e} (Balance.calm s) h i = (omega arith, hot-black l e r)
 
 same-right : {n : ℕ} {l r u : Tree} {e : Entry} → Balance (node fresh black l e r) u → Rb n l → Hot r → (made u ≡ suc (made l + made r)) × Hot u
-same-right (Balance.rl {a = a} {b = b} {c = c} {d = d} {x = x} {y = y} {z = z} j) i h =
-    (omega (arith, h .root, h .left refl), hot-red (node fresh black a x b) y (node fresh black c z d) (never refl) (never refl))
-same-right (Balance.rr {a = a} {b = b} {c = c} {d = d} {x = x} {y = y} {z = z} j m) i h =
-    (omega (arith, h .root, h .right refl), hot-red (node fresh black a x b) y (node fresh black c z d) (never refl) (never refl))
-same-right Balance.ll (rb-red i k a b) h = absurd (true≢false i)
-same-right (Balance.lr j) (rb-red i k a b) h = absurd (true≢false k)
+same-right (Balance.rl j) i h = (omega (arith, h .root, h .left refl), hot-risen _ _ _ _ _ _ _)
+same-right (Balance.rr j k) i h = (omega (arith, h .root, h .right refl), hot-risen _ _ _ _ _ _ _)
+same-right Balance.ll i h = absurd (true≢false (not-red i .0))
+same-right (Balance.lr j) i h = absurd (true≢false (not-red i .1))
 same-right {l = l} {r = r} {e = e} (Balance.calm s) i h = (omega arith, hot-black l e r)
+
+-- At a red node it does nothing.
+same-red : {l r u : Tree} {e : Entry} → Balance (node fresh red l e r) u → (isRed l ≡ true → top l ≡ 1) → (isRed r ≡ true → top r ≡ 1) →
+    (made u ≡ suc (made l + made r)) × Hot u
+same-red {l = l} {r = r} {e = e} (Balance.calm s) h i = (omega arith, hot-red l e r h i)
+
+-- So a node of either colour, in the place of one of a red-black tree, with one child grown.
+module _ {n : ℕ} {p : Place} {l r u : Tree} {e : Entry} where
+  grown-left : {m : Tree} (c : Color) → Balance (node fresh c m e r) u → Hot m → Rb n (node p c l e r) → (made u ≡ suc (made m + made r)) × Hot u
+  grown-left red g h a = same-red g (λ _. h .root) (never (not-red a .1))
+  grown-left black g h a = same-left g h (parts a .1)
+
+  grown-right : {m : Tree} (c : Color) → Balance (node fresh c l e m) u → Hot m → Rb n (node p c l e r) → (made u ≡ suc (made l + made m)) × Hot u
+  grown-right red g h a = same-red g (never (not-red a .0)) (λ _. h .root)
+  grown-right black g h a = same-right g (parts a .0) h
 
 module _ {x : Entry} where
   made-replaced : {t u : Tree} → Ins x true t u → made t ≡ 0 → (made u ≡ path (x .key) t) × (top u ≡ 1)
@@ -74,20 +89,14 @@ module _ {x : Entry} where
   made-new : {n : ℕ} {t u : Tree} → Ins x false t u → Rb n t → made t ≡ 0 → (made u ≡ suc (path (x .key) t)) × Hot u
   unfolding path
   made-new Ins.new a z = (refl, hot-red leaf x leaf (never refl) (never refl))
-  made-new (Ins.left {p = p} {c = red} {l = l} {l' = m} {r = r} {e = e} h g (turned (Balance.calm s))) (rb-red i j a b) z =
-      let d = made-new g a (omega arith) in
-      (omega (arith, path-left (x .key) p red l e r h, d .0), hot-red m e r (λ _. d .1 .root) (never j))
-  made-new (Ins.left {p = p} {c = black} {l = l} {r = r} {e = e} h g (turned s)) (rb-black a b) z =
-      let d = made-new g a (omega arith) in
-      let f = same-left s (d .1) b in
-      (omega (arith, path-left (x .key) p black l e r h, d .0, f .0), f .1)
-  made-new (Ins.right {p = p} {c = red} {l = l} {r = r} {r' = m} {e = e} h g (turned (Balance.calm s))) (rb-red i j a b) z =
-      let d = made-new g b (omega arith) in
-      (omega (arith, path-right (x .key) p red l e r h, d .0), hot-red l e m (never i) (λ _. d .1 .root))
-  made-new (Ins.right {p = p} {c = black} {l = l} {r = r} {e = e} h g (turned s)) (rb-black a b) z =
-      let d = made-new g b (omega arith) in
-      let f = same-right s a (d .1) in
-      (omega (arith, path-right (x .key) p black l e r h, d .0, f .0), f .1)
+  made-new (Ins.left {p = p} {c = c} {l = l} {r = r} {e = e} h g (turned s)) a z =
+      let d = made-new g (parts a .0) (omega arith) in
+      let f = grown-left c s (d .1) a in
+      (omega (arith, path-left (x .key) p c l e r h, d .0, f .0), f .1)
+  made-new (Ins.right {p = p} {c = c} {l = l} {r = r} {e = e} h g (turned s)) a z =
+      let d = made-new g (parts a .1) (omega arith) in
+      let f = grown-right c s (d .1) a in
+      (omega (arith, path-right (x .key) p c l e r h, d .0, f .0), f .1)
 
 made-root : (c : Color) (t : Tree) → top t ≡ 1 → made (paint c t) ≡ made t
 made-root c leaf h = refl

@@ -1,11 +1,12 @@
 -- The arms that 000 marks `unreachable!` are never reached on red-black trees, and every `unwrap` that no test before it guards finds a node.
 use Prim.Native.Nat.{ℕ, suc}
-use mathlib.Core.Path.{_≡_, sym, _∙_}
-use mathlib.Core.Bool.{true, false, true≢false}
-use Rattle.trees.specs.Tree.{Entry, Tree, isBlack}
-use Rattle.trees.specs.Shape.{Rb, rb-red, rb-black}
+use mathlib.Core.Path.{_≡_}
+use mathlib.Core.Bool.{true}
+use Rattle.trees.specs.Tree.{Entry, Place, Tree, black, node, isBlack}
+use Rattle.trees.specs.Shape.{Rb, rb-black}
 use Rattle.trees.proofs.RemoveCases.{Left, Right, Fuse, Del, deleted}
-use Rattle.trees.proofs.RemoveLaws.{not-red-black, near-not-red, rb-Fuse}
+use Rattle.trees.proofs.InsertLaws.{levelsBelow, parts, not-red}
+use Rattle.trees.proofs.RemoveLaws.{not-red-black, near-not-red, never-left, never-right, rb-Fuse}
 
 -- A run of the steps in which no such arm is taken. The only `unwrap`s that no test guards are in the third arms of `remove_balance_left`
 -- and `_right`: the far child of a red sibling, d.
@@ -42,43 +43,40 @@ clean-Left : {n : ℕ} {l r u : Tree} {e : Entry} (g : Left l e r u) → Rb (suc
 unfolding Clean-Left
 clean-Left Left.red-left a = tt
 clean-Left (Left.black-right h g) a = tt
-clean-Left (Left.red-right h g) (rb-red i j b d) = not-red-black j d
-clean-Left (Left.stuck h i) (rb-red j k b c) = true≢false (sym (not-red-black j b) ∙ i)
-clean-Left (Left.stuck h i) (rb-black b c) = true≢false h
+clean-Left (Left.red-right h g) a = not-red-black (not-red a .1) (parts a .1)
+clean-Left (Left.stuck h i) a = never-left h i a
 
 clean-Right : {n : ℕ} {l r u : Tree} {e : Entry} (g : Right l e r u) → Rb (suc n) l → Clean-Right g
 unfolding Clean-Right
 clean-Right Right.red-right a = tt
 clean-Right (Right.black-left h g) a = tt
-clean-Right (Right.red-left h g) (rb-red i j d b) = not-red-black i d
-clean-Right (Right.stuck h i) (rb-red j k b c) = true≢false (sym (not-red-black k c) ∙ i)
-clean-Right (Right.stuck h i) (rb-black b c) = true≢false h
+clean-Right (Right.red-left h g) a = not-red-black (not-red a .0) (parts a .0)
+clean-Right (Right.stuck h i) a = never-right h i a
 
 clean-Fuse : {n : ℕ} {l r u : Tree} (g : Fuse l r u) → Rb n l → Rb n r → Clean-Fuse g
 unfolding Clean-Fuse
 clean-Fuse Fuse.no-left a b = tt
 clean-Fuse Fuse.no-right a b = tt
-clean-Fuse (Fuse.black-red g) a (rb-red h i b c) = clean-Fuse g a b
-clean-Fuse (Fuse.red-black g) (rb-red h i a b) c = clean-Fuse g b c
-clean-Fuse (Fuse.middle g) (rb-red h i a b) (rb-red j k c d) = clean-Fuse g b c
-clean-Fuse (Fuse.middle g) (rb-black a b) (rb-black c d) = clean-Fuse g b c
-clean-Fuse (Fuse.red-red q g) (rb-red h i a b) (rb-red j k c d) = clean-Fuse g b c
-clean-Fuse (Fuse.black-black q g s) (rb-black a b) (rb-black c d) =
-    (clean-Fuse g b c, clean-Left s (rb-black (near-not-red q (rb-Fuse g b c .0)) d))
+clean-Fuse (Fuse.black-red g) a b = clean-Fuse g a (parts b .0)
+clean-Fuse (Fuse.red-black g) a b = clean-Fuse g (parts a .1) b
+clean-Fuse (Fuse.middle g) a b = clean-Fuse g (parts a .1) (parts b .0)
+clean-Fuse (Fuse.red-red q g) a b = clean-Fuse g (parts a .1) (parts b .0)
+clean-Fuse (Fuse.black-black q g s) a b =
+    let m = parts a .1 in let f = parts b in
+    (clean-Fuse g m (f .0), clean-Left s (rb-black (near-not-red q (rb-Fuse g m (f .0) .0)) (f .1)))
+
+-- Beside a black child there is one black level or more.
+beside-black : {n : ℕ} {q : Place} {a b t : Tree} {x : Entry} → Rb n (node q black a x b) → Rb n t → Rb (suc (levelsBelow black n)) t
+beside-black (rb-black a b) c = c
 
 pub clean-Del : {k n : ℕ} {t u : Tree} (g : Del k t u) → Rb n t → Clean-Del g
 unfolding Clean-Del
 clean-Del Del.none a = tt
-clean-Del (Del.here h g) (rb-red i j a b) = clean-Fuse g a b
-clean-Del (Del.here h g) (rb-black a b) = clean-Fuse g a b
-clean-Del (Del.left h q g) (rb-red i j a b) = clean-Del g a
-clean-Del (Del.left h q g) (rb-black a b) = clean-Del g a
-clean-Del (Del.left-black h g s) (rb-red i j (rb-black a b) c) = (clean-Del g (rb-black a b), clean-Left s c)
-clean-Del (Del.left-black h g s) (rb-black (rb-black a b) c) = (clean-Del g (rb-black a b), clean-Left s c)
-clean-Del (Del.right h q g) (rb-red i j a b) = clean-Del g b
-clean-Del (Del.right h q g) (rb-black a b) = clean-Del g b
-clean-Del (Del.right-black h g s) (rb-red i j a (rb-black b c)) = (clean-Del g (rb-black b c), clean-Right s a)
-clean-Del (Del.right-black h g s) (rb-black a (rb-black b c)) = (clean-Del g (rb-black b c), clean-Right s a)
+clean-Del (Del.here h g) a = clean-Fuse g (parts a .0) (parts a .1)
+clean-Del (Del.left h q g) a = clean-Del g (parts a .0)
+clean-Del (Del.left-black h g s) a = let b = parts a in (clean-Del g (b .0), clean-Left s (beside-black (b .0) (b .1)))
+clean-Del (Del.right h q g) a = clean-Del g (parts a .1)
+clean-Del (Del.right-black h g s) a = let b = parts a in (clean-Del g (b .1), clean-Right s (beside-black (b .1) (b .0)))
 
 -- Whatever key is removed from a red-black tree.
 pub never-stuck : {n : ℕ} (k : ℕ) (t : Tree) → Rb n t → Clean-Del (deleted k t)

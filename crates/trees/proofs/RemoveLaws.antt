@@ -1,17 +1,17 @@
 -- Laws of `fuse` and `remove`: the listing, the order, the shape.
 use Prim.Native.Nat.{ℕ, suc, _<_}
 use mathlib.Core.Path.{_≡_, refl, sym, ap, _∙_}
-use mathlib.Core.Bool.{Bool, true, false, true≢false}
+use mathlib.Core.Bool.{Bool, true, false, _&&_, true≢false}
 use mathlib.Core.List.{List, _∷_, _++_, append-assoc, append-nil}
 use Rattle.heights.proofs.Choices.{fork, compared}
-use Rattle.trees.specs.Tree.{Entry, red, black, Place, fresh, Tree, leaf, node, isRed, isBlack, paint, copy, listing}
+use Rattle.trees.specs.Tree.{Entry, Color, red, black, Place, fresh, Tree, leaf, node, lf, rt, isRed, isBlack, paint, copy, listing}
 use Rattle.trees.specs.Listing.{cut, Ascending}
 use Rattle.trees.specs.Shape.{Rb, rb-leaf, rb-red, rb-black, Fine}
 use Rattle.trees.specs.Lookup.{has}
 use Rattle.trees.specs.Remove.{fuse, del, remove}
 use Rattle.trees.proofs.RemoveCases.{RemoveBalance, Left, Right, Fuse, fused, Del, deleted}
 use Rattle.trees.proofs.Listings.{split, cut-left, cut-right, cut-here, ascending-cut}
-use Rattle.trees.proofs.InsertLaws.{listing-Balance, listing-paint, Near, red-root, well, rb-balance-left, rb-balance-right, rb-paint, root-paint}
+use Rattle.trees.proofs.InsertLaws.{listing-Balance, listing-paint, Near, red-root, well, levelsBelow, parts, not-red, near-parts, rb-risen, rb-balance-left, rb-balance-right, rb-paint, root-paint}
 
 -- The listing.
 
@@ -111,13 +111,11 @@ near-not-red h (red-root a b) = absurd (true≢false h)
 near-not-red h (well a) = a
 
 rb-remove-balance-left : {n : ℕ} {p : Place} {l r u : Tree} {e : Entry} → RemoveBalance (node p black l e r) u → Near n l → Rb n r → Rb (suc n) u
-rb-remove-balance-left RemoveBalance.both (red-root a b) (rb-red h i c d) = rb-red refl refl (rb-black a b) (rb-black c d)
-rb-remove-balance-left RemoveBalance.both (well (rb-red h i a b)) (rb-red j k c d) = rb-red refl refl (rb-black a b) (rb-black c d)
+rb-remove-balance-left RemoveBalance.both a b = rb-risen (near-parts a) (parts b)
 rb-remove-balance-left (RemoveBalance.plain g) a b = rb-balance-left g a b
 
 rb-remove-balance-right : {n : ℕ} {p : Place} {l r u : Tree} {e : Entry} → RemoveBalance (node p black l e r) u → Rb n l → Near n r → Rb (suc n) u
-rb-remove-balance-right RemoveBalance.both (rb-red h i a b) (red-root c d) = rb-red refl refl (rb-black a b) (rb-black c d)
-rb-remove-balance-right RemoveBalance.both (rb-red h i a b) (well (rb-red j k c d)) = rb-red refl refl (rb-black a b) (rb-black c d)
+rb-remove-balance-right RemoveBalance.both a b = rb-risen (parts a) (near-parts b)
 rb-remove-balance-right (RemoveBalance.plain g) a b = rb-balance-right g a b
 
 painted-red : {n : ℕ} {t : Tree} → isRed t ≡ false → Rb (suc n) t → Near n (paint red t)
@@ -129,24 +127,33 @@ pub not-red-black : {n : ℕ} {t : Tree} → isRed t ≡ false → Rb (suc n) t 
 not-red-black h (rb-red i j a b) = absurd (true≢false h)
 not-red-black h (rb-black a b) = refl
 
+-- The arm that 000 marks `unreachable!` is not taken on the left, nor on the right.
+pub never-left : {n : ℕ} {t : Tree} → isBlack t ≡ false → isRed t && isBlack (lf t) ≡ false → Rb (suc n) t → ⊥
+never-left h i (rb-red j k a b) = true≢false (sym (not-red-black j a) ∙ i)
+never-left h i (rb-black a b) = true≢false h
+
+pub never-right : {n : ℕ} {t : Tree} → isBlack t ≡ false → isRed t && isBlack (rt t) ≡ false → Rb (suc n) t → ⊥
+never-right h i (rb-red j k a b) = true≢false (sym (not-red-black k b) ∙ i)
+never-right h i (rb-black a b) = true≢false h
+
 -- `remove_balance_left` and `_right`, where one side is one black level short.
 pub rb-Left : {n : ℕ} {l r u : Tree} {e : Entry} → Left l e r u → Near n l → Rb (suc n) r → Near (suc n) u × (isRed r ≡ false → Rb (suc n) u)
-rb-Left Left.red-left (red-root a b) c = (red-root (rb-black a b) c, λ j. rb-red refl j (rb-black a b) c)
-rb-Left Left.red-left (well (rb-red h i a b)) c = (red-root (rb-black a b) c, λ j. rb-red refl j (rb-black a b) c)
-rb-Left (Left.black-right h g) a (rb-black b c) = let d = rb-remove-balance-right g (near-not-red h a) (red-root b c) in (well d, λ _. d)
-rb-Left (Left.red-right h g) a (rb-red i j (rb-black b c) d) =
-    (red-root (rb-black (near-not-red h a) b) (rb-remove-balance-right g c (painted-red j d)), λ k. absurd (true≢false k))
-rb-Left (Left.stuck h i) a (rb-red j k b c) = absurd (true≢false (sym (not-red-black j b) ∙ i))
-rb-Left (Left.stuck h i) a (rb-black b c) = absurd (true≢false h)
+rb-Left Left.red-left a c = let f = near-parts a in let b = rb-black (f .0) (f .1) in (red-root b c, λ j. rb-red refl j b c)
+rb-Left (Left.black-right h g) a c =
+    let f = parts c in let d = rb-remove-balance-right g (near-not-red h a) (red-root (f .0) (f .1)) in (well d, λ _. d)
+rb-Left (Left.red-right h g) a c =
+    let f = parts c in let b = parts (f .0) in
+    (red-root (rb-black (near-not-red h a) (b .0)) (rb-remove-balance-right g (b .1) (painted-red (not-red c .1) (f .1))), λ k. absurd (true≢false k))
+rb-Left (Left.stuck h i) a c = absurd (never-left h i c)
 
 pub rb-Right : {n : ℕ} {l r u : Tree} {e : Entry} → Right l e r u → Rb (suc n) l → Near n r → Near (suc n) u × (isRed l ≡ false → Rb (suc n) u)
-rb-Right Right.red-right c (red-root a b) = (red-root c (rb-black a b), λ j. rb-red j refl c (rb-black a b))
-rb-Right Right.red-right c (well (rb-red h i a b)) = (red-root c (rb-black a b), λ j. rb-red j refl c (rb-black a b))
-rb-Right (Right.black-left h g) (rb-black b c) a = let d = rb-remove-balance-left g (red-root b c) (near-not-red h a) in (well d, λ _. d)
-rb-Right (Right.red-left h g) (rb-red i j d (rb-black b c)) a =
-    (red-root (rb-remove-balance-left g (painted-red i d) b) (rb-black c (near-not-red h a)), λ k. absurd (true≢false k))
-rb-Right (Right.stuck h i) (rb-red j k b c) a = absurd (true≢false (sym (not-red-black k c) ∙ i))
-rb-Right (Right.stuck h i) (rb-black b c) a = absurd (true≢false h)
+rb-Right Right.red-right c a = let f = near-parts a in let b = rb-black (f .0) (f .1) in (red-root c b, λ j. rb-red j refl c b)
+rb-Right (Right.black-left h g) c a =
+    let f = parts c in let d = rb-remove-balance-left g (red-root (f .0) (f .1)) (near-not-red h a) in (well d, λ _. d)
+rb-Right (Right.red-left h g) c a =
+    let f = parts c in let b = parts (f .1) in
+    (red-root (rb-remove-balance-left g (painted-red (not-red c .0) (f .0)) (b .0)) (rb-black (b .1) (near-not-red h a)), λ k. absurd (true≢false k))
+rb-Right (Right.stuck h i) c a = absurd (never-right h i c)
 
 rb-copy : {n : ℕ} {t : Tree} → Rb n t → Rb n (copy t)
 rb-copy rb-leaf = rb-leaf
@@ -159,21 +166,25 @@ between-red (rb-red h i b c) j k a d = red-root (rb-red j h a b) (rb-red i k c d
 
 between-black : {n : ℕ} {s : Place} {l fl fr r : Tree} {x y z : Entry} → Near n (node s red fl y fr) → Rb n l → Rb n r →
     Rb (suc n) (node fresh red (node fresh black l x fl) y (node fresh black fr z r))
-between-black (red-root b c) a d = rb-red refl refl (rb-black a b) (rb-black c d)
-between-black (well (rb-red h i b c)) a d = rb-red refl refl (rb-black a b) (rb-black c d)
+between-black b a d = let f = near-parts b in rb-risen (a, f .0) (f .1, d)
 
 pub rb-Fuse : {n : ℕ} {l r u : Tree} → Fuse l r u → Rb n l → Rb n r → Near n u × (isRed l ≡ false → isRed r ≡ false → Rb n u)
 rb-Fuse Fuse.no-left a b = (well (rb-copy b), λ _ _. rb-copy b)
 rb-Fuse Fuse.no-right a b = (well (rb-copy a), λ _ _. rb-copy a)
-rb-Fuse (Fuse.black-red g) a (rb-red h i b c) = (red-root (rb-Fuse g a b .1 refl h) c, λ _ j. absurd (true≢false j))
-rb-Fuse (Fuse.red-black g) (rb-red h i a b) c = (red-root a (rb-Fuse g b c .1 i refl), λ j _. absurd (true≢false j))
-rb-Fuse (Fuse.middle g) (rb-red h i a b) (rb-red j k c d) =
-    (between-red (rb-Fuse g b c .1 i j) h k a d, λ j _. absurd (true≢false j))
-rb-Fuse (Fuse.middle g) (rb-black a b) (rb-black c d) = let e = between-black (rb-Fuse g b c .0) a d in (well e, λ _ _. e)
-rb-Fuse (Fuse.red-red q g) (rb-red h i a b) (rb-red j k c d) =
-    (red-root a (rb-red q k (rb-Fuse g b c .1 i j) d), λ j _. absurd (true≢false j))
-rb-Fuse (Fuse.black-black q g s) (rb-black a b) (rb-black c d) =
-    let e = rb-Left s (well a) (rb-black (near-not-red q (rb-Fuse g b c .0)) d) in (e .0, λ _ _. e .1 refl)
+rb-Fuse (Fuse.black-red g) a b =
+    let f = parts b in (red-root (rb-Fuse g a (f .0) .1 refl (not-red b .0)) (f .1), λ _ j. absurd (true≢false j))
+rb-Fuse (Fuse.red-black g) a b =
+    let f = parts a in (red-root (f .0) (rb-Fuse g (f .1) b .1 (not-red a .1) refl), λ j _. absurd (true≢false j))
+rb-Fuse (Fuse.middle {c = red} g) a b =
+    let m = rb-Fuse g (parts a .1) (parts b .0) .1 (not-red a .1) (not-red b .0) in
+    (between-red m (not-red a .0) (not-red b .1) (parts a .0) (parts b .1), λ j _. absurd (true≢false j))
+rb-Fuse (Fuse.middle {c = black} g) (rb-black a b) c =
+    let f = parts c in let e = between-black (rb-Fuse g b (f .0) .0) a (f .1) in (well e, λ _ _. e)
+rb-Fuse (Fuse.red-red q g) a b =
+    let m = rb-Fuse g (parts a .1) (parts b .0) .1 (not-red a .1) (not-red b .0) in
+    (red-root (parts a .0) (rb-red q (not-red b .1) m (parts b .1)), λ j _. absurd (true≢false j))
+rb-Fuse (Fuse.black-black q g s) (rb-black a b) c =
+    let f = parts c in let e = rb-Left s (well a) (rb-black (near-not-red q (rb-Fuse g b (f .0) .0)) (f .1)) in (e .0, λ _ _. e .1 refl)
 
 -- After `del` a black tree is one black level short, and perhaps red above red; any other keeps its shape.
 unfoldable pub After : {n : ℕ} {t : Tree} → Rb n t → Tree → Type 0
@@ -187,6 +198,25 @@ after-not-black rb-leaf h b = b
 after-not-black (rb-red i j a c) h b = b
 after-not-black (rb-black a c) h b = absurd (true≢false h)
 
+-- At a node of either colour, so that no law of `del` tells them apart.
+after : {n : ℕ} {p : Place} {c : Color} {l r u : Tree} {e : Entry} (a : Rb n (node p c l e r)) →
+    Near (levelsBelow c n) u × (isRed l ≡ false → isRed r ≡ false → Rb (levelsBelow c n) u) → After a u
+unfolding After
+after (rb-red i j a b) g = g .1 i j
+after (rb-black a b) g = g .0
+
+-- Beside a black child, which is one level short after `del`.
+module _ {q : Place} {i j : Tree} {x : Entry} where
+  after-left : {n : ℕ} {d r u : Tree} {e : Entry} → Left d e r u → (c : Rb n (node q black i x j)) → After c d → Rb n r →
+      Near n u × (isRed r ≡ false → Rb n u)
+  unfolding After
+  after-left s (rb-black a b) g c = rb-Left s g c
+
+  after-right : {n : ℕ} {d l u : Tree} {e : Entry} → Right l e d u → (c : Rb n (node q black i x j)) → After c d → Rb n l →
+      Near n u × (isRed l ≡ false → Rb n u)
+  unfolding After
+  after-right s (rb-black a b) g c = rb-Right s c g
+
 module _ {k : ℕ} where
   leaf-after : {n : ℕ} {t u : Tree} → Rb n t → isBlack t ≡ false → isRed t ≡ false → Del k t u → isRed u ≡ false
   leaf-after rb-leaf h i Del.none = refl
@@ -196,16 +226,17 @@ module _ {k : ℕ} where
   pub rb-Del : {n : ℕ} {t u : Tree} → Del k t u → (a : Rb n t) → After a u
   unfolding After
   rb-Del Del.none rb-leaf = rb-leaf
-  rb-Del (Del.here h g) (rb-red i j a b) = rb-Fuse g a b .1 i j
-  rb-Del (Del.here h g) (rb-black a b) = rb-Fuse g a b .0
-  rb-Del (Del.left h q g) (rb-red i j a b) = rb-red (leaf-after a q i g) j (after-not-black a q (rb-Del g a)) b
-  rb-Del (Del.left h q g) (rb-black a b) = red-root (after-not-black a q (rb-Del g a)) b
-  rb-Del (Del.left-black h g s) (rb-red i j (rb-black a b) c) = rb-Left s (rb-Del g (rb-black a b)) c .1 j
-  rb-Del (Del.left-black h g s) (rb-black (rb-black a b) c) = rb-Left s (rb-Del g (rb-black a b)) c .0
-  rb-Del (Del.right h q g) (rb-red i j a b) = rb-red i (leaf-after b q j g) a (after-not-black b q (rb-Del g b))
-  rb-Del (Del.right h q g) (rb-black a b) = red-root a (after-not-black b q (rb-Del g b))
-  rb-Del (Del.right-black h g s) (rb-red i j a (rb-black b c)) = rb-Right s a (rb-Del g (rb-black b c)) .1 i
-  rb-Del (Del.right-black h g s) (rb-black a (rb-black b c)) = rb-Right s a (rb-Del g (rb-black b c)) .0
+  rb-Del (Del.here h g) a = after a (rb-Fuse g (parts a .0) (parts a .1))
+  rb-Del (Del.left h q g) a =
+      let b = parts a in let f = after-not-black (b .0) q (rb-Del g (b .0)) in
+      after a (red-root f (b .1), λ i j. rb-red (leaf-after (b .0) q i g) j f (b .1))
+  rb-Del (Del.left-black h g s) a =
+      let b = parts a in let f = after-left s (b .0) (rb-Del g (b .0)) (b .1) in after a (f .0, λ _ j. f .1 j)
+  rb-Del (Del.right h q g) a =
+      let b = parts a in let f = after-not-black (b .1) q (rb-Del g (b .1)) in
+      after a (red-root (b .0) f, λ i j. rb-red i (leaf-after (b .1) q j g) (b .0) f)
+  rb-Del (Del.right-black h g s) a =
+      let b = parts a in let f = after-right s (b .1) (rb-Del g (b .1)) (b .0) in after a (f .0, λ i _. f .1 i)
 
 near-after : {n : ℕ} {t u : Tree} (a : Rb n t) → After a u → (m : ℕ) × Near m u
 unfolding After
