@@ -10,7 +10,7 @@
 #define OLD 7
 
 /* The words of an arena of n nodes and v slots are at hand, and formatted. */
-static void arena(uint32_t n, uint32_t v)
+static void formatted(uint32_t n, uint32_t v)
 {
     at_hand(FOAMCORBEL_WORDS(n, v), OLD);
     format(n, v);
@@ -70,7 +70,7 @@ static void lengths(void)
 /* The one node serves again after its version is released. */
 static void one_node(void)
 {
-    arena(1, 3);
+    formatted(1, 3);
     new_version();
     insert(0, 5, 50);
     insert(1, 6, 60);
@@ -84,7 +84,7 @@ static void one_node(void)
 /* Inserts 1, 2 and 3 with all versions kept, then 4. */
 static void four_kept(uint32_t n)
 {
-    arena(n, 32);
+    formatted(n, 32);
     new_version();
     insert(0, 1, 10);
     insert(1, 2, 20);
@@ -97,7 +97,7 @@ static void four_kept(uint32_t n)
 /* Removes the only entry. */
 static void one_removed(uint32_t n)
 {
-    arena(n, 32);
+    formatted(n, 32);
     new_version();
     insert(0, 5, 50);
     free_nodes();
@@ -118,7 +118,7 @@ static void reserves(void)
 static void two_ended(void)
 {
     foamcorbel_walk none = foamcorbel_walk_over(2), one = given_front(none, 1), both = given_back(one, 2);
-    arena(20, 4);
+    formatted(20, 4);
     new_version();
     insert(0, 1, 10);
     insert(1, 2, 20);
@@ -139,7 +139,7 @@ static void both_ends(foamcorbel_walk walk)
 static void ranges(void)
 {
     foamcorbel_walk alone = range(1, FOAMCORBEL_INCLUDED, 5, FOAMCORBEL_INCLUDED, 5);
-    arena(20, 4);
+    formatted(20, 4);
     new_version();
     insert(0, 5, 50);
     both_ends(range(1, FOAMCORBEL_INCLUDED, 5, FOAMCORBEL_EXCLUDED, 5));
@@ -190,7 +190,7 @@ static void unsound(void)
 static void no_version(void)
 {
     static const uint32_t slots[] = { 1, 4, GREATEST };
-    arena(20, 4);
+    formatted(20, 4);
     new_version();
     for (size_t k = 0; k < sizeof slots / sizeof *slots; k++) {
         writes(slots[k]);
@@ -202,7 +202,7 @@ static void no_version(void)
 /* What an empty version and one with the key 7 have not. */
 static void absent(void)
 {
-    arena(20, 4);
+    formatted(20, 4);
     new_version();
     get(0, 7);
     first(0);
@@ -239,7 +239,7 @@ static void slot_released(void)
 /* No node is free: only the removal of an absent key needs none. */
 static void no_room(void)
 {
-    arena(1, 2);
+    formatted(1, 2);
     new_version();
     insert(0, 5, 50);
     insert(1, 6, 60);
@@ -255,7 +255,7 @@ static void no_room(void)
 /* Eight versions of at most two entries. */
 static void eight(void)
 {
-    arena(20, 8);
+    formatted(20, 8);
     new_version();
     insert(0, RESCALE_SLOPE, 7);
     insert(1, RESCALE_SLOPE, 8);

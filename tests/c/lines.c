@@ -4,6 +4,9 @@
 #include <inttypes.h>
 #include <stdio.h>
 
+/* What stands where no call has written a value. */
+#define UNWRITTEN 3141592653u
+
 static uint32_t *words;
 static size_t len;
 
@@ -89,7 +92,7 @@ void format(uint32_t n, uint32_t v)
 
 void new_version(void)
 {
-    uint32_t slot = 0;
+    uint32_t slot = UNWRITTEN;
     calls("new");
     uint32_t status = foamcorbel_new_version(words, len, &slot);
     slot_line(status, slot);
@@ -97,7 +100,7 @@ void new_version(void)
 
 void hold(uint32_t s)
 {
-    uint32_t slot = 0;
+    uint32_t slot = UNWRITTEN;
     calls("hold");
     uint32_t status = foamcorbel_hold(words, len, s, &slot);
     slot_line(status, slot);
@@ -111,7 +114,7 @@ void release(uint32_t s)
 
 void size(uint32_t s)
 {
-    uint32_t number = 0;
+    uint32_t number = UNWRITTEN;
     calls("size");
     uint32_t status = foamcorbel_size(words, len, s, &number);
     number_line(status, number);
@@ -119,7 +122,7 @@ void size(uint32_t s)
 
 void free_nodes(void)
 {
-    uint32_t number = 0;
+    uint32_t number = UNWRITTEN;
     calls("free nodes");
     uint32_t status = foamcorbel_free_nodes(words, len, &number);
     number_line(status, number);
@@ -127,7 +130,7 @@ void free_nodes(void)
 
 void get(uint32_t s, uint32_t key)
 {
-    uint32_t value = 0;
+    uint32_t value = UNWRITTEN;
     calls("get");
     uint32_t status = foamcorbel_get(words, len, s, key, &value);
     number_line(status, value);
@@ -135,7 +138,7 @@ void get(uint32_t s, uint32_t key)
 
 void first(uint32_t s)
 {
-    foamcorbel_entry entry = { 0, 0 };
+    foamcorbel_entry entry = { UNWRITTEN, UNWRITTEN };
     calls("first");
     uint32_t status = foamcorbel_first(words, len, s, &entry);
     entry_line(status, entry);
@@ -143,7 +146,7 @@ void first(uint32_t s)
 
 void last(uint32_t s)
 {
-    foamcorbel_entry entry = { 0, 0 };
+    foamcorbel_entry entry = { UNWRITTEN, UNWRITTEN };
     calls("last");
     uint32_t status = foamcorbel_last(words, len, s, &entry);
     entry_line(status, entry);
@@ -151,7 +154,7 @@ void last(uint32_t s)
 
 void insert(uint32_t s, uint32_t key, uint32_t value)
 {
-    uint32_t slot = 0;
+    uint32_t slot = UNWRITTEN;
     calls("insert");
     uint32_t status = foamcorbel_insert(words, len, s, key, value, &slot);
     slot_line(status, slot);
@@ -159,7 +162,7 @@ void insert(uint32_t s, uint32_t key, uint32_t value)
 
 void cut(uint32_t s, uint32_t key)
 {
-    uint32_t slot = 0;
+    uint32_t slot = UNWRITTEN;
     calls("remove");
     uint32_t status = foamcorbel_remove(words, len, s, key, &slot);
     slot_line(status, slot);
@@ -167,7 +170,7 @@ void cut(uint32_t s, uint32_t key)
 
 void compare(uint32_t s, uint32_t t)
 {
-    int32_t sign = 0;
+    int32_t sign = 2;
     calls("compare");
     uint32_t status = foamcorbel_compare(words, len, s, t, &sign);
     if (refused(status)) {
@@ -179,7 +182,7 @@ void compare(uint32_t s, uint32_t t)
 
 void equal(uint32_t s, uint32_t t)
 {
-    uint32_t truth = 0;
+    uint32_t truth = UNWRITTEN;
     calls("equal");
     uint32_t status = foamcorbel_equal(words, len, s, t, &truth);
     truth_line(status, truth);
@@ -187,7 +190,7 @@ void equal(uint32_t s, uint32_t t)
 
 void step_front(foamcorbel_walk walk)
 {
-    foamcorbel_entry entry = { 0, 0 };
+    foamcorbel_entry entry = { UNWRITTEN, UNWRITTEN };
     calls("step front");
     uint32_t status = foamcorbel_step_front(words, len, &walk, &entry);
     entry_line(status, entry);
@@ -195,7 +198,7 @@ void step_front(foamcorbel_walk walk)
 
 void step_back(foamcorbel_walk walk)
 {
-    foamcorbel_entry entry = { 0, 0 };
+    foamcorbel_entry entry = { UNWRITTEN, UNWRITTEN };
     calls("step back");
     uint32_t status = foamcorbel_step_back(words, len, &walk, &entry);
     entry_line(status, entry);
@@ -203,7 +206,7 @@ void step_back(foamcorbel_walk walk)
 
 void rescale_mark(uint32_t s)
 {
-    uint32_t truth = 0;
+    uint32_t truth = UNWRITTEN;
     calls("rescale mark");
     uint32_t status = foamcorbel_rescale_mark(words, len, s, &truth);
     truth_line(status, truth);
@@ -211,7 +214,7 @@ void rescale_mark(uint32_t s)
 
 void sound(void)
 {
-    uint32_t truth = 0;
+    uint32_t truth = UNWRITTEN;
     calls("sound");
     uint32_t status = foamcorbel_sound(words, len, &truth);
     truth_line(status, truth);

@@ -1,4 +1,4 @@
-//! `beside tiny|short|long [SEED]`: the proved library beside rpds's own map, call by call. Stops with a message and exit status 1 at the
+//! `beside tiny|short|long [SEED]`: the library beside rpds's own map, call by call. Stops with a message and exit status 1 at the
 //! first difference. `beside faults [SEED]`: the same with faults put in, each of which has to be found. `beside histories [SEED]`: the histories of `long` alone.
 #![forbid(unsafe_code)]
 

@@ -1,4 +1,4 @@
-//! `damaged short|long [SEED] [kinds]`: damaged arenas given to the proved library and to the checker. Stops with a message and exit
+//! `damaged short|long [SEED] [kinds]`: damaged arenas given to the library and to the checker. Stops with a message and exit
 //! status 1 at the first difference. With `kinds` it shows what each kind of damage came to. `damaged faults [SEED]`: the same with
 //! faults put in, each of which has to be found. `damaged tiny [SEED]`: a few arenas, for a memory checker.
 #![forbid(unsafe_code)]
