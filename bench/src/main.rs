@@ -1,8 +1,11 @@
 //! `bench FILE.svg`: prints the tables of docs/PERFORMANCE.md and draws the plot.
+//! `bench since BEFORE.so NOW.so`: prints those of get at two revisions.
 mod arena;
 mod bytes;
 mod calls;
 mod plot;
+mod revision;
+mod since;
 mod soundness;
 mod timing;
 
@@ -44,10 +47,20 @@ fn cut_to_size(entries: usize) -> Plan {
 }
 
 fn main() -> ExitCode {
-    let Some(file) = std::env::args().nth(1) else {
-        eprintln!("usage: bench FILE.svg");
-        return ExitCode::FAILURE;
-    };
+    let words: Vec<String> = std::env::args().skip(1).collect();
+    match &words.iter().map(String::as_str).collect::<Vec<&str>>()[..] {
+        ["since", before, now] => since::tables(before, now),
+        [file] => return tables(file),
+        _ => {
+            eprintln!("usage: bench FILE.svg, or bench since BEFORE.so NOW.so");
+            return ExitCode::FAILURE;
+        }
+    }
+    ExitCode::SUCCESS
+}
+
+/// All tables, and the plot in the file.
+fn tables(file: &str) -> ExitCode {
     println!("## The soundness test\n");
     soundness::table(PASSES);
     println!("\n## Bytes\n");
@@ -64,7 +77,7 @@ fn main() -> ExitCode {
     }
     let named: Vec<(&str, &Vec<Row>)> = TABLES.iter().zip(&tables).map(|(table, rows)| (table.1, rows)).collect();
     let drawn = plot::draw(&SIZES, &named);
-    match std::fs::write(&file, drawn) {
+    match std::fs::write(file, drawn) {
         Ok(()) => ExitCode::SUCCESS,
         Err(error) => {
             eprintln!("{file}: {error}");

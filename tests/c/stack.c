@@ -1,4 +1,5 @@
-/* How much stack the calls take: they run on a stack of this program's, which is painted before and looked at after. */
+/* How much stack the calls take: they run on a stack of this program's, which is painted before and
+ * looked at after. */
 #define _DEFAULT_SOURCE
 #include "expect.h"
 
@@ -22,12 +23,14 @@ static void *nothing(void *unused)
     return unused;
 }
 
+static uint32_t words[FOAMCORBEL_WORDS(FOAMCORBEL_MAX_NODES, FOAMCORBEL_MAX_SLOTS)];
+static const size_t len = sizeof words / sizeof *words;
+static uint32_t slot;
+
 /* Fills the largest arena, then removes and compares. */
 static void *history(void *unused)
 {
-    static uint32_t words[FOAMCORBEL_WORDS(FOAMCORBEL_MAX_NODES, FOAMCORBEL_MAX_SLOTS)];
-    const size_t len = sizeof words / sizeof *words;
-    uint32_t slot = 0, next = 0;
+    uint32_t next = 0;
     int32_t sign = 0;
     EXPECT(foamcorbel_format(words, len, FOAMCORBEL_MAX_NODES, FOAMCORBEL_MAX_SLOTS) == FOAMCORBEL_ACCEPTED);
     EXPECT(foamcorbel_new_version(words, len, &slot) == FOAMCORBEL_ACCEPTED);
@@ -41,6 +44,17 @@ static void *history(void *unused)
         EXPECT(foamcorbel_compare(words, len, next, slot, &sign) == FOAMCORBEL_ACCEPTED && sign == 1);
         EXPECT(foamcorbel_release(words, len, next) == FOAMCORBEL_ACCEPTED);
     }
+    return unused;
+}
+
+/* Looks every key up in the filled arena, and one that is not there. */
+static void *lookups(void *unused)
+{
+    uint32_t value = 0;
+    for (uint32_t key = 0; key < ENTRIES; key++) {
+        EXPECT(foamcorbel_get(words, len, slot, key, &value) == FOAMCORBEL_ACCEPTED && value == key);
+    }
+    EXPECT(foamcorbel_get(words, len, slot, ENTRIES, &value) == FOAMCORBEL_ABSENT);
     return unused;
 }
 
@@ -70,7 +84,8 @@ int main(void)
 {
     size_t itself = taken(nothing);
     size_t calls = taken(history) - itself;
-    printf("stack: the calls took %lu bytes\n", (unsigned long)calls);
-    EXPECT(calls > 0 && calls < PROMISED);
+    size_t gets = taken(lookups) - itself;
+    printf("stack: the calls took %lu bytes, get alone %lu\n", (unsigned long)calls, (unsigned long)gets);
+    EXPECT(calls < PROMISED && gets > 0 && gets <= calls);
     return report("stack");
 }

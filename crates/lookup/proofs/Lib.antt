@@ -1,3 +1,4 @@
 pub mod Descents
+pub mod Leading
 pub mod Chosen
 pub mod Versions

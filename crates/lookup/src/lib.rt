@@ -1,8 +1,11 @@
 // Module 3 of document 01's port order: lookups over node numbers, the remaining height falling.
 use arena::Entry;
 use arena::MAX_HEIGHT;
+use arena::Node;
 use arena::node_at;
 ghost use mathlib.Core.Path.{_≡_};
+ghost use lib.Dec.{ltb};
+ghost use Rattle.heights.specs.Choice.{if_then_else_};
 ghost use Rattle.words.specs.Layout.{maxHeight};
 ghost use Rattle.trees.specs.Listing.{orElse};
 ghost use Rattle.trees.specs.Lookup.{get as getOf, first as firstIn, last as lastIn};
@@ -15,30 +18,42 @@ pub enum Found {
     Nothing,
 }
 
-fn get_below(ws: &[u32], i: u32, key: u32, h: u32) -> Found
-    requires { ⌜ Rooted (now ws) i h ⌝ }
-    ensures { λ r. ⌜ Finds (now (ws .entry)) i r (getOf key) ⌝ }
+// Where the descent of `get` goes on below a node of another key.
+fn side(d: Node, key: u32) -> u32
+    ensures { λ r. ⌜ r ≡ (if ltb key (d .entry .key) then d .left else d .right) ⌝ }
 {
-    if i == 0 {
-        return Found::Nothing;
-    }
-    let d = node_at(ws, i);
     let e = d.entry;
     if key < e.key {
-        get_below(ws, d.left, key, h - 1)
-    } else if e.key < key {
-        get_below(ws, d.right, key, h - 1)
-    } else {
-        Found::At(e)
+        return d.left;
     }
+    d.right
 }
 
-// The entry with the key, in the version whose root is the link i.
+// The entry with the key, in the version whose root is the link i. The remaining height h is only
+// what falls: no instruction is made of it.
 pub fn get(ws: &[u32], i: u32, key: u32) -> Found
     requires { ⌜ Rooted (now ws) i maxHeight ⌝ }
     ensures { λ r. ⌜ Finds (now (ws .entry)) i r (getOf key) ⌝ }
 {
-    get_below(ws, i, key, MAX_HEIGHT)
+    let mut at = i;
+    let mut h = MAX_HEIGHT;
+    while at != 0 {
+        let d = node_at(ws, at);
+        let e = d.entry;
+        if key == e.key {
+            return Found::At(e);
+        }
+        // Both links are asked for, so that the side is chosen between two numbers that are there
+        // and not loaded once the keys are compared.
+        if d.left == 0 {
+            if d.right == 0 {
+                return Found::Nothing;
+            }
+        }
+        at = side(d, key);
+        h -= 1;
+    }
+    Found::Nothing
 }
 
 // What was found further on, or else e.
