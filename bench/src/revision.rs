@@ -38,9 +38,12 @@ pub struct Revision {
 
 impl Revision {
     /// The object is never closed: its functions are called until the process ends.
-    pub fn open(file: &str) -> Revision {
+    ///
+    /// # Safety
+    /// The file is one that bench/since makes: its functions have the types above.
+    pub unsafe fn open(file: &str) -> Revision {
         let path = CString::new(file).expect("a path without a zero byte");
-        // SAFETY: the path is a string of C's; the object runs no code when it is opened.
+        // SAFETY: the path is a string of C's; the object has no code that runs when it is opened.
         let object = unsafe { dlopen(path.as_ptr(), RTLD_NOW) };
         assert!(!object.is_null(), "{file} cannot be opened");
         let named = |name: &CStr| {
@@ -49,7 +52,7 @@ impl Revision {
             assert!(!place.is_null(), "{file} has no {name:?}");
             place
         };
-        // SAFETY: bench/since makes the objects of the library, whose functions have these types.
+        // SAFETY: the caller's: these names have these types.
         unsafe {
             Revision {
                 get: transmute::<*mut c_void, Get>(named(c"foamcorbel_get")),
@@ -77,13 +80,15 @@ impl Revision {
         sound == 1
     }
 
-    /// The descent alone, to each key in turn, from a held slot's root in a sound arena; `see` is
-    /// given the answers.
-    pub fn descend(&self, words: &[u32], root: u32, keys: &[u32], mut see: impl FnMut(Option<u32>)) {
+    /// The descent alone, to each key in turn; `see` is given the answers.
+    ///
+    /// # Safety
+    /// The words are a sound arena, and the root is a held slot's.
+    pub unsafe fn descend(&self, words: &[u32], root: u32, keys: &[u32], mut see: impl FnMut(Option<u32>)) {
         let slice = Slice { words: words.as_ptr(), len: words.len() };
         let mut found = Found::default();
         for key in keys {
-            // SAFETY: both places are as large as the kit's own; the root is a node of the words, or 0.
+            // SAFETY: both places are as large as the kit's own; the rest is the caller's.
             unsafe { (self.descent)(&mut found, &slice, root, *key) };
             see((found.nothing == 0).then_some(found.value));
         }

@@ -17,11 +17,18 @@ const FEW: usize = 64;
 /// More than it can learn.
 const MANY: usize = 8192;
 
-/// A version of so many entries in the largest arena, and the keys that are asked for.
+/// Keys that are asked for, and whether they are there.
+struct Asked {
+    name: &'static str,
+    keys: Vec<u32>,
+    there: bool,
+}
+
+/// A version of so many entries in the largest arena, and what is asked of it.
 struct Case {
     arena: Arena,
     root: u32,
-    asked: Vec<(&'static str, Vec<u32>)>,
+    asked: [Asked; 3],
 }
 
 impl Case {
@@ -31,27 +38,36 @@ impl Case {
         let mut random = Random::new(1);
         let present: Vec<u32> = (0..MANY).map(|_| arena.keys[random.below(entries)]).collect();
         let absent: Vec<u32> = present.iter().map(|key| key.wrapping_add(1)).collect();
-        assert!(absent.iter().all(|key| arena.keys.binary_search(key).is_err()), "no key is there");
-        let asked = vec![("the same 64", arena.some_keys(FEW)), ("any", present), ("any that is absent", absent)];
+        let asked = [
+            Asked { name: "the same 64", keys: arena.some_keys(FEW), there: true },
+            Asked { name: "any", keys: present, there: true },
+            Asked { name: "any that is absent", keys: absent, there: false },
+        ];
         Case { arena, root, asked }
+    }
+
+    fn descend(&self, revision: &Revision, keys: &[u32], see: impl FnMut(Option<u32>)) {
+        // SAFETY: calls made the arena and none was refused, and the root is its newest slot's.
+        unsafe { revision.descend(self.arena.lent.words(), self.root, keys, see) }
     }
 
     /// What is timed has to answer as rpds does.
     fn check(&self, revision: &Revision) {
         let (words, map) = (self.arena.lent.words(), self.arena.newest_map());
-        for (_, keys) in &self.asked {
-            let mut values = keys.iter().map(|key| map.get(key).copied());
-            revision.descend(words, self.root, keys, |found| assert_eq!(Some(found), values.next(), "a descent"));
-            assert_eq!(values.next(), None, "a descent to each key");
-        }
-        for key in self.asked.iter().flat_map(|(_, keys)| &keys[..FEW]) {
-            assert_eq!(revision.get(words, self.arena.newest(), *key), map.get(key).copied(), "get of {key}");
+        for Asked { keys, there, .. } in &self.asked {
+            let values: Vec<Option<u32>> = keys.iter().map(|key| map.get(key).copied()).collect();
+            assert!(values.iter().all(|value| value.is_some() == *there), "the keys are there or not");
+            let mut found = Vec::new();
+            self.descend(revision, keys, |value| found.push(value));
+            assert_eq!(found, values, "descents");
+            let called = keys[..FEW].iter().map(|key| revision.get(words, self.arena.newest(), *key));
+            assert!(called.eq(values[..FEW].iter().copied()), "calls of get");
         }
     }
 
-    /// Nanoseconds of the public call before and now, and of the test now: the mean over the few keys.
+    /// Nanoseconds of the public call before and now, and of the test now: means over the few keys.
     fn calls(&self, revisions: &[Revision; 2]) -> Vec<f64> {
-        let (words, s, keys) = (self.arena.lent.words(), self.arena.newest(), &self.asked[0].1);
+        let (words, s, keys) = (self.arena.lent.words(), self.arena.newest(), &self.asked[0].keys);
         let times = least_times(3 * FEW, |i| {
             let key = keys[i / 3];
             time(|| match revisions.get(i % 3) {
@@ -64,10 +80,10 @@ impl Case {
 
     /// Nanoseconds of the descent before and now and of rpds's get; a round times all three.
     fn descents(&self, revisions: &[Revision; 2], keys: &[u32]) -> Vec<f64> {
-        let (words, map) = black_box((self.arena.lent.words(), self.arena.newest_map()));
+        let map = black_box(self.arena.newest_map());
         let times = least_times(3, |i| {
             time(|| match revisions.get(i) {
-                Some(revision) => revision.descend(words, self.root, keys, see),
+                Some(revision) => self.descend(revision, keys, see),
                 None => keys.iter().for_each(|key| see(rpds_get(map, *key))),
             })
         });
@@ -87,13 +103,14 @@ fn least(passes: impl Fn() -> Vec<f64>) -> Vec<f64> {
 }
 
 pub fn tables(before: &str, now: &str) {
-    let revisions = [Revision::open(before), Revision::open(now)];
+    // SAFETY: bench/since names the two objects that it made.
+    let revisions = unsafe { [Revision::open(before), Revision::open(now)] };
     let cases: Vec<Case> = SIZES.map(Case::new).into();
     cases.iter().for_each(|case| revisions.iter().for_each(|revision| case.check(revision)));
     println!("## The descent of get, without the soundness test\n");
     println!("| entries | keys | before ns | now ns | rpds ns | now to rpds |\n|---|---|---|---|---|---|");
     for case in &cases {
-        for (name, keys) in &case.asked {
+        for Asked { name, keys, .. } in &case.asked {
             let times = least(|| case.descents(&revisions, keys));
             let [before, now, rpds] = times[..] else { unreachable!("three are timed") };
             println!("| {} | {name} | {before:.1} | {now:.1} | {rpds:.1} | {:.2} |", case.arena.keys.len(), now / rpds);

@@ -30,15 +30,16 @@ static uint32_t *slot(void)
     return words + 6 * NODES + 8;
 }
 
-/* Node i has the i-th key; no key is another's neighbour. */
+/* Node i has the i-th key. Keys are spread over all 32 bits, and none is another's neighbour. */
 static uint32_t key_of(uint32_t i)
 {
-    return 3 * i;
+    return 2097151 * i;
 }
 
+/* So are the values, in no order: an odd multiplier takes no number twice. */
 static uint32_t value_of(uint32_t i)
 {
-    return 4294967295u - i;
+    return 2654435769u * i;
 }
 
 /* The next node in listing order: its left child is planted before it, its right child after it. */
@@ -106,7 +107,7 @@ static void start(void)
     planted = 0;
 }
 
-/* Slot 0 holds what was planted; the nodes behind it are free, and listed as format has left them. */
+/* Slot 0 holds what was planted. The nodes behind it are free, and listed as format left them. */
 static void hold(uint32_t root)
 {
     uint32_t sound = 0;

@@ -47,10 +47,11 @@ static void *history(void *unused)
     return unused;
 }
 
-/* Looks every key up in the filled arena, and one that is not there. */
+/* Looks every key up in the filled arena, and one that is not there. What this takes is the
+ * soundness test's: the descent comes after it and takes less. */
 static void *lookups(void *unused)
 {
-    uint32_t value = 0;
+    uint32_t value = ENTRIES;
     for (uint32_t key = 0; key < ENTRIES; key++) {
         EXPECT(foamcorbel_get(words, len, slot, key, &value) == FOAMCORBEL_ACCEPTED && value == key);
     }

@@ -43,8 +43,8 @@ pub fn get(ws: &[u32], i: u32, key: u32) -> Found
         if key == e.key {
             return Found::At(e);
         }
-        // Both links are asked for, so that the side is chosen between two numbers that are there
-        // and not loaded once the keys are compared.
+        // A node without children ends the descent. Since both links are asked for here, the side
+        // is chosen between two numbers that are there, and not loaded once the keys are compared.
         if d.left == 0 {
             if d.right == 0 {
                 return Found::Nothing;
