@@ -25,7 +25,7 @@ pub record Leads (f : Tree → Option Entry) (ws : List ℕ) (i at h : ℕ) : Ty
 pub leads-start : {f : Tree → Option Entry} {ws : List ℕ} {i h : ℕ} → Rooted ws i h → Leads f ws i i h
 leads-start k = record { rooted = k; leads = λ r g. g }
 
--- The loop ends below all nodes; at the key; at a node without children; or goes on.
+-- The loop ends below all nodes; at the key; goes on to a side; or ends at a node without children.
 module _ {ws : List ℕ} {i at h : ℕ} (k : ℕ) (L : Leads (get k) ws i at h) where
   pub get-end : at ≡ 0 → Finds ws i Nothing (get k)
   get-end e = L .leads Nothing (get-none k e)
