@@ -5,6 +5,7 @@ use crate::timing::{least_times, see, time};
 use common::random::Random;
 use library::layout::slot;
 use std::hint::black_box;
+use std::time::Duration;
 
 const SIZES: [usize; 4] = [16, 128, 1024, 1900];
 
@@ -16,6 +17,9 @@ const FEW: usize = 64;
 
 /// More than it can learn.
 const MANY: usize = 8192;
+
+/// How often each of the few keys is asked for right after a soundness test.
+const AFTER_A_TEST: usize = 100;
 
 /// Keys that are asked for, and whether they are there.
 struct Asked {
@@ -78,17 +82,45 @@ impl Case {
         (0..3).map(|which| times.iter().skip(which).step_by(3).sum::<f64>() / FEW as f64).collect()
     }
 
-    /// Nanoseconds of the descent before and now and of rpds's get; a round times all three.
+    /// Nanoseconds of the descent before and now, and of rpds's get called and inlined; a round
+    /// times all four.
     fn descents(&self, revisions: &[Revision; 2], keys: &[u32]) -> Vec<f64> {
         let map = black_box(self.arena.newest_map());
-        let times = least_times(3, |i| {
-            time(|| match revisions.get(i) {
-                Some(revision) => self.descend(revision, keys, see),
-                None => keys.iter().for_each(|key| see(rpds_get(map, *key))),
+        let times = least_times(4, |i| {
+            time(|| match i {
+                0 | 1 => self.descend(&revisions[i], keys, see),
+                2 => keys.iter().for_each(|key| see(rpds_get(map, *key))),
+                _ => keys.iter().for_each(|key| see(map.get(key))),
             })
         });
         times.into_iter().map(|taken| taken / keys.len() as f64).collect()
     }
+
+    /// Nanoseconds of one descent right after a soundness test, as the public call makes it, before
+    /// and now, and of rpds's get called likewise: by the few keys, which the test makes the
+    /// processor forget.
+    fn after_a_test(&self, revisions: &[Revision; 2]) -> Vec<f64> {
+        let (words, map) = (self.arena.lent.words(), black_box(self.arena.newest_map()));
+        let mut times = [const { Vec::new() }; 3];
+        for key in (0..AFTER_A_TEST).flat_map(|_| &self.asked[0].keys) {
+            for (i, taken) in times.iter_mut().enumerate() {
+                assert!(revisions[1].sound(words), "the arena is sound");
+                taken.push(time(|| match revisions.get(i) {
+                    Some(revision) => self.descend(revision, &[*key], see),
+                    None => see(rpds_get(map, *key)),
+                }));
+            }
+        }
+        times.map(middle).into()
+    }
+}
+
+/// The mean of the middle nine tenths, in nanoseconds.
+fn middle(mut times: Vec<Duration>) -> f64 {
+    times.sort();
+    let cut = times.len() / 20;
+    let kept = &times[cut..times.len() - cut];
+    kept.iter().sum::<Duration>().as_nanos() as f64 / kept.len() as f64
 }
 
 /// rpds's get by a call, as the library's descent is one.
@@ -105,21 +137,38 @@ fn least(passes: impl Fn() -> Vec<f64>) -> Vec<f64> {
 pub fn tables(before: &str, now: &str) {
     // SAFETY: bench/since names the two objects that it made.
     let revisions = unsafe { [Revision::open(before), Revision::open(now)] };
-    let cases: Vec<Case> = SIZES.map(Case::new).into();
+    let cases = SIZES.map(Case::new);
     cases.iter().for_each(|case| revisions.iter().for_each(|revision| case.check(revision)));
-    println!("## The descent of get, without the soundness test\n");
-    println!("| entries | keys | before ns | now ns | rpds ns | now to rpds |\n|---|---|---|---|---|---|");
+    descents(&cases, &revisions);
+    println!("\n## One descent right after a soundness test\n");
+    println!("| entries | before ns | now ns | rpds called ns | now to rpds |\n|---|---|---|---|---|");
     for case in &cases {
+        let times = case.after_a_test(&revisions);
+        let [before, now, rpds] = times[..] else { unreachable!("three are timed") };
+        println!("| {} | {before:.0} | {now:.0} | {rpds:.0} | {:.2} |", case.arena.keys.len(), now / rpds);
+    }
+    calls(&cases, &revisions);
+}
+
+fn descents(cases: &[Case], revisions: &[Revision; 2]) {
+    println!("## The descent of get, without the soundness test\n");
+    println!("| entries | keys | before ns | now ns | rpds called ns | inlined ns | now to called | to inlined |");
+    println!("|---|---|---|---|---|---|---|---|");
+    for case in cases {
         for Asked { name, keys, .. } in &case.asked {
-            let times = least(|| case.descents(&revisions, keys));
-            let [before, now, rpds] = times[..] else { unreachable!("three are timed") };
-            println!("| {} | {name} | {before:.1} | {now:.1} | {rpds:.1} | {:.2} |", case.arena.keys.len(), now / rpds);
+            let times = least(|| case.descents(revisions, keys));
+            let [before, now, called, inlined] = times[..] else { unreachable!("four are timed") };
+            print!("| {} | {name} | {before:.1} | {now:.1} | {called:.1} | {inlined:.1} |", case.arena.keys.len());
+            println!(" {:.2} | {:.2} |", now / called, now / inlined);
         }
     }
+}
+
+fn calls(cases: &[Case], revisions: &[Revision; 2]) {
     println!("\n## The public get\n");
     println!("| entries | before µs | now µs | the test alone µs |\n|---|---|---|---|");
-    for case in &cases {
-        let times = least(|| case.calls(&revisions));
+    for case in cases {
+        let times = least(|| case.calls(revisions));
         let [before, now, test] = times[..] else { unreachable!("three are timed") };
         let micros = |nanos: f64| nanos / 1000.0;
         println!("| {} | {:.2} | {:.2} | {:.2} |", case.arena.keys.len(), micros(before), micros(now), micros(test));

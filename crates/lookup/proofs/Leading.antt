@@ -3,7 +3,7 @@
 use mathlib.Core.Path.{_≡_, refl}
 use mathlib.Core.List.{List}
 use mathlib.Core.Option.{Option}
-use Prim.Native.Nat.{ℕ, _-_, _<_}
+use Prim.Native.Nat.{ℕ, _-_}
 use native.Mathlib.Omega.{arith}
 use lib.Dec.{ltb}
 use borrow.Author.Tests.{ltb-true, ltb-false}
@@ -25,6 +25,11 @@ pub record Leads (f : Tree → Option Entry) (ws : List ℕ) (i at h : ℕ) : Ty
 pub leads-start : {f : Tree → Option Entry} {ws : List ℕ} {i h : ℕ} → Rooted ws i h → Leads f ws i i h
 leads-start k = record { rooted = k; leads = λ r g. g }
 
+-- A round: what is found below the next link is found here, and so below i.
+pub leads-on : {f : Tree → Option Entry} {ws : List ℕ} {i at h link g : ℕ} → Leads f ws i at h → Rooted ws link g →
+    ((r : Found) → Finds ws link r f → Finds ws at r f) → Leads f ws i link g
+leads-on L k on = record { rooted = k; leads = λ r found. L .leads r (on r found) }
+
 -- The loop ends below all nodes; at the key; goes on to a side; or ends at a node without children.
 module _ {ws : List ℕ} {i at h : ℕ} (k : ℕ) (L : Leads (get k) ws i at h) where
   pub get-end : at ≡ 0 → Finds ws i Nothing (get k)
@@ -34,18 +39,12 @@ module _ {ws : List ℕ} {i at h : ℕ} (k : ℕ) (L : Leads (get k) ws i at h) 
     pub get-found : k ≡ d .entry .key → Finds ws i (At (d .entry)) (get k)
     get-found e = L .leads (At (d .entry)) (get-here s m k (omega arith) (omega arith))
 
-    to-left : k < d .entry .key → Leads (get k) ws i (d .left) (h - 1)
-    to-left l = record { rooted = rooted-left (L .rooted) s m; leads = λ r g. L .leads r (get-left s m k l g) }
-
-    to-right : d .entry .key < k → Leads (get k) ws i (d .right) (h - 1)
-    to-right l = record { rooted = rooted-right (L .rooted) s m; leads = λ r g. L .leads r (get-right s m k l g) }
-
     module _ (other : k ≡ d .entry .key → ⊥) where
       pub get-side : {r : ℕ} → r ≡ (if ltb k (d .entry .key) then d .left else d .right) → Leads (get k) ws i r (h - 1)
       get-side e =
           rw e (fork (λ (x : ℕ). Leads (get k) ws i x (h - 1)) (ltb k (d .entry .key))
-          (λ t. to-left (ltb-true k (d .entry .key) t))
-          (λ t. to-right (omega (arith, ltb-false k (d .entry .key) t))))
+          (λ t. leads-on L (rooted-left (L .rooted) s m) (λ r g. get-left s m k (ltb-true k (d .entry .key) t) g))
+          (λ t. leads-on L (rooted-right (L .rooted) s m) (λ r g. get-right s m k (omega (arith, ltb-false k (d .entry .key) t)) g)))
 
       pub get-childless : d .left ≡ 0 → d .right ≡ 0 → Finds ws i Nothing (get k)
       get-childless l r =
