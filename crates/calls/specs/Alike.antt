@@ -1,4 +1,5 @@
--- docs/EXCEPTIONS.md as one relation: what two runs of a call on the same words may leave different.
+-- RULES 11.2, docs/EXCEPTIONS.md, as one relation: what two runs of a call on the same words may
+-- leave different.
 use mathlib.Core.Path.{_≡_}
 use mathlib.Core.Logic.{_⊎_}
 use mathlib.Core.Bool.{Bool, true, false}
@@ -26,7 +27,8 @@ pub record Match (renamed : ℕ → Bool) (ws ws' : List ℕ) (i j : ℕ) : Type
   pub count-is : count ws' j ≡ count ws i
   pub place : (i ≡ j) ⊎ ((renamed i ≡ true) × (renamed j ≡ true))
 
--- Words that are equal but for the names of the nodes that may be renamed, the order of the free list, and other words of free nodes.
+-- RULES 11.2: words that are equal but for the names of the nodes that may be renamed, the order of
+-- the free list, and other words of free nodes.
 pub record Alike (renamed : ℕ → Bool) (ws ws' : List ℕ) : Type 0 where
   -- so the free list of each lists exactly the nodes not reached, each once, with count 0
   pub sound : Sound ws
@@ -40,8 +42,9 @@ pub record Alike (renamed : ℕ → Bool) (ws ws' : List ℕ) : Type 0 where
   pub one : (i j k : ℕ) → Twins ws ws' i j → Twins ws ws' i k → j ≡ k
   pub one' : (i j k : ℕ) → Twins ws ws' i k → Twins ws ws' j k → i ≡ j
 
--- "Exceptions ..: only which free node is taken, the order in which free nodes are listed, and what other words a free node keeps." Insert and
--- remove take nodes that were free on the words ws, release takes none. New and hold touch no free node, and format lists them all in order.
+-- RULES 11.2: "which of the free nodes is taken; in which order the free nodes are listed; what a
+-- free node has in its other words". Insert and remove take nodes that were free on the words ws,
+-- release takes none. New and hold touch no free node, and format lists them all in order.
 abbrev pub renamedBy : Effect → List ℕ → Option (ℕ → Bool)
 renamedBy (Effect.formats n v) ws = none
 renamedBy Effect.makes ws = none
@@ -50,7 +53,8 @@ renamedBy (Effect.releases s) ws = some (λ i. false)
 renamedBy (Effect.edits s d) ws = some (wasFree ws)
 renamedBy Effect.reads ws = none
 
--- Words that two runs of a call leave: equal, or where nodes are taken or freed equal but for the exceptions.
+-- RULES 11.1, 11.2: words that two runs of a call leave are equal, or where nodes are taken or
+-- freed equal but for the exceptions.
 abbrev pub SameBut : Option (ℕ → Bool) → List ℕ → List ℕ → Type 0
 SameBut none w w' = w ≡ w'
 SameBut (some renamed) w w' = (w ≡ w') ⊎ Alike renamed w w'

@@ -1,4 +1,4 @@
--- Document 01, "Calls and refusal numbers": the calls, and what they answer.
+-- RULES 4.1 to 4.17: the calls, and what they answer.
 use mathlib.Core.Bool.{Bool}
 use Prim.Native.Nat.{ℕ}
 use Rattle.trees.specs.Tree.{Entry}
@@ -6,13 +6,13 @@ use Rattle.trees.specs.Range.{End, Range}
 use Rattle.trees.specs.Order.{Sign}
 use Rattle.calls.specs.Refusal.{Refusal}
 
--- "the caller keeps by value a slot, two bounds .., the last key given at the front, if any, and at the back, if any"
+-- RULES 7.1: "A walk is kept by the caller, by value: a slot; a start and an end ..".
 pub record Walk : Type 0 where
   pub slot : ℕ
   pub range : Range
 
--- "format, new empty version, hold (a second slot for the same version), release, size, free nodes, get, first, last, insert, remove, compare,
--- equal, walk step at either end, rescale mark, soundness test". s and t are slots, k a key; format takes N and V.
+-- RULES 4.1 to 4.16, a case for each row with what it "is given": s and t are slots, k is a key;
+-- format takes N and V.
 pub data Call : Type 0 where
   format : (n v : ℕ) → Call
   new : Call
@@ -27,7 +27,8 @@ pub data Call : Type 0 where
   rescale-mark : (s : ℕ) → Call
   soundness-test : Call
 
--- "Each answers a value, or the refusal by its number. Accepted, format and release answer only that they are done."
+-- RULES 4.17: "A call answers what its row says, or it is refused and answers the number of the
+-- refusal. Format and release, where accepted, say no more than that they are done."
 pub data Answer : Type 0 where
   refused : Refusal → Answer
   done : Answer

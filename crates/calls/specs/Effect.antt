@@ -1,4 +1,5 @@
--- "Format, new, hold, release, insert and remove write to the arena; no other call does."
+-- RULES 4.20: "Six calls write to the arena: format, new, hold, release, insert and remove. The
+-- others never do."
 use Prim.Native.Nat.{ℕ}
 use Rattle.trees.specs.Edit.{Edit, setting, cutting}
 use Rattle.calls.specs.Call.{Call}
@@ -10,7 +11,7 @@ pub data Effect : Type 0 where
   edits : (s : ℕ) → Edit → Effect
   reads : Effect
 
--- What a call does where it is accepted.
+-- RULES 4.20: what a call does where it is accepted.
 abbrev pub effect : Call → Effect
 effect (Call.format n v) = Effect.formats n v
 effect Call.new = Effect.makes

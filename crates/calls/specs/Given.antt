@@ -1,4 +1,5 @@
--- Document 01's table, by refusals: when each is due. `Table.antt` says which calls test it, and in which order.
+-- RULES 4.22 to 4.29, "given exactly when": when each refusal is due. `Table.antt` says which calls
+-- test it, and in which order.
 use mathlib.Core.Path.{_≡_}
 use mathlib.Core.Bool.{true}
 use mathlib.Core.List.{List}
@@ -19,26 +20,28 @@ use Rattle.calls.specs.Table.{slotsOf}
 use Rattle.calls.specs.Version.{VersionIs}
 
 pub data Given (ws : List ℕ) : Refusal → Call → Type 0 where
-  -- "format: N or V outside its limits, or wrong slice length"
+  -- RULES 4.22: "format: N or V breaks 2.7, or the slice's length is not that of 2.8"
   bad-shape : {n v : ℕ} → (Limits n v (length ws) → ⊥) → Given ws Refusal.bad-shape (Call.format n v)
-  -- "any other call but the soundness test: arena not sound"
+  -- RULES 4.23: "all calls but format and the soundness test: the arena is not sound"
   unsound : {c : Call} → (Sound ws → ⊥) → Given ws Refusal.unsound c
-  -- "a named slot is V or more, or not held"
+  -- RULES 4.24: "a slot that the call names is not below V, or is not held"
   no-version : {c : Call} (s : ℕ) → 1 ≤ occ s (slotsOf c) → (Held ws s → ⊥) → Given ws Refusal.no-version c
-  -- "a walk's start and end are equal and both excluded, or start is above end (both ends given)"
+  -- RULES 4.25: "a walk step: the range is bad"
   bad-range : {d : End} {w : Walk} → badRange (w .range .start) (w .range .end) ≡ true → Given ws Refusal.bad-range (Call.step d w)
-  -- "get without the key; first or last of an empty version"
+  -- RULES 4.26: "get: no such key in the version; first, last: the version is empty"
   no-key : {s k : ℕ} {t : Tree} → VersionIs ws s t → find k (listing t) ≡ none → Given ws Refusal.absent (Call.get s k)
   no-first : {s : ℕ} {t : Tree} → VersionIs ws s t → firstOf (listing t) ≡ none → Given ws Refusal.absent (Call.first s)
   no-last : {s : ℕ} {t : Tree} → VersionIs ws s t → lastOf (listing t) ≡ none → Given ws Refusal.absent (Call.last s)
-  -- "new, hold, insert, remove: all V slots held"
+  -- RULES 4.27: "new, hold, insert, remove: each of the V slots is held"
   no-slot : {c : Call} → ((s : ℕ) → s < slots ws → Held ws s) → Given ws Refusal.no-slot c
-  -- "insert or remove: fewer free nodes than the reserve"; "insert needs H(n) + 1 free nodes, whether the key is there or not"
+  -- RULES 4.28: "insert, remove: the free number is below the reserve"; RULES 5.3: "An insert needs
+  -- H(n) + 1 free nodes, be its key new or not."
   insert-room : {s : ℕ} {e : Entry} {t : Tree} (S : Sound ws) → VersionIs ws s t → freeNumber S < insertReserve (size t) →
       Given ws Refusal.no-room (Call.insert s e)
-  -- "remove of a present key needs 6 × H(n) + 2; remove of an absent key needs none"
+  -- RULES 5.4, 5.5: "6 × H(n) + 2 free nodes where the version has the key", "no free node where
+  -- the version does not have the key"
   remove-room : {s k : ℕ} {t : Tree} {e : Entry} (S : Sound ws) → VersionIs ws s t → find k (listing t) ≡ some e →
       freeNumber S < removeReserve (size t) → Given ws Refusal.no-room (Call.remove s k)
-  -- "a walk step with nothing left"
+  -- RULES 4.29: "a walk step: no entry remains"
   ended : {d : End} {w : Walk} {t : Tree} → VersionIs ws (w .slot) t → next d (w .range) (listing t) ≡ none →
       Given ws Refusal.ended (Call.step d w)

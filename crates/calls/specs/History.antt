@@ -1,4 +1,5 @@
--- Demand 3: a format, then any calls; what each slot should then hold; and what holds after every call.
+-- RULES 14.4 to 14.9, demand 3: a format, then any calls; what each slot should then hold; and what
+-- holds after every call.
 use mathlib.Core.Path.{_≡_}
 use mathlib.Core.List.{List, []}
 use mathlib.Core.Option.{Option, none, some}
@@ -17,7 +18,8 @@ use Rattle.calls.specs.Effect.{Effect, effect}
 use Rattle.calls.specs.Version.{VersionIs}
 use Rattle.calls.specs.Outcome.{Outcome}
 
--- The N and V of the last accepted format, and for each slot the listing of its version, if it is held.
+-- RULES 14.4, 14.6: the N and V of the last accepted format, and for each slot the listing of its
+-- version, if it is held.
 pub record Model : Type 0 where
   pub n : ℕ
   pub v : ℕ
@@ -33,7 +35,8 @@ abbrev pub editedAt : Edit → Option (List Entry) → Option (List Entry)
 editedAt d none = none
 editedAt d (some xs) = some (edited d xs)
 
--- What the slot that is handed out lists.
+-- RULES 14.6: what the slot that is handed out lists. "Nothing (new), what the named version listed
+-- then (hold), or that with one tag set (insert) or cut (remove)."
 abbrev pub handed : Effect → Model → Option (List Entry)
 handed (Effect.formats n v) m = none
 handed Effect.makes m = some []
@@ -42,7 +45,8 @@ handed (Effect.releases s) m = none
 handed (Effect.edits s d) m = editedAt d (m .lists s)
 handed Effect.reads m = none
 
--- What a call that answers only that it is done leaves.
+-- What a call that answers only that it is done leaves. RULES 14.4: another accepted format starts
+-- anew.
 abbrev pub doneAfter : Effect → Model → Model
 doneAfter (Effect.formats n v) m = noVersions n v
 doneAfter Effect.makes m = m
@@ -51,7 +55,7 @@ doneAfter (Effect.releases s) m = withSlot m s none
 doneAfter (Effect.edits s d) m = m
 doneAfter Effect.reads m = m
 
--- The model after a call, by its answer: a refused call leaves it as it was.
+-- The model after a call, by its answer: a refused call leaves it as it was (RULES 4.19).
 abbrev pub after : Call → Answer → Model → Model
 after c (Answer.refused r) m = m
 after c Answer.done m = doneAfter (effect c) m
@@ -62,12 +66,12 @@ after c (Answer.entry e) m = m
 after c (Answer.sign x) m = m
 after c (Answer.truth b) m = m
 
--- Any calls, accepted or refused, one after the other.
+-- RULES 14.4: "any calls, also refused ones", one after the other.
 pub data Calls (ws : List ℕ) (m : Model) : List ℕ → Model → Type 0 where
   no-call : Calls ws m ws m
   call : {c : Call} {a : Answer} {ws' ws'' : List ℕ} {m' : Model} → Calls ws m ws' m' → Outcome c ws' a ws'' → Calls ws m ws'' (after c a m')
 
--- A history starts with an accepted format.
+-- RULES 14.4: "A history is an accepted format and then any calls".
 pub record History (ws : List ℕ) (m : Model) : Type 0 where
   pub n : ℕ
   pub v : ℕ
@@ -76,7 +80,7 @@ pub record History (ws : List ℕ) (m : Model) : Type 0 where
   pub formats : Outcome (Call.format n v) old Answer.done start
   pub calls : Calls start (noVersions n v) ws m
 
--- Slot s lists xs, and its tree is no taller than H of their number.
+-- Slot s lists xs, and its tree is no taller than H of their number (RULES 14.9).
 pub record Lists (ws : List ℕ) (s : ℕ) (xs : List Entry) : Type 0 where
   pub tree : Tree
   pub version : VersionIs ws s tree
@@ -87,7 +91,8 @@ abbrev pub SlotAs : List ℕ → ℕ → Option (List Entry) → Type 0
 SlotAs ws s none = Held ws s → ⊥
 SlotAs ws s (some xs) = Lists ws s xs
 
--- The arena is sound, and each slot is as the model has it; the free number is N less the different nodes reachable from held slots.
+-- RULES 14.5: the arena is sound. RULES 14.6: each slot is as the model has it. RULES 14.8: "The
+-- free number is N less the number of different nodes that held slots reach."
 pub record Keeps (ws : List ℕ) (m : Model) : Type 0 where
   pub sound : Sound ws
   pub n-is : nodes ws ≡ m .n

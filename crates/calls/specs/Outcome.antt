@@ -1,4 +1,4 @@
--- What a call does: the refusals are tested in order, and then it is accepted. Document 01, "Calls and refusal numbers".
+-- What a call does, RULES 4: the refusals are tested in order, and then it is accepted.
 use mathlib.Core.Path.{_≡_}
 use mathlib.Core.Logic.{_⊎_}
 use mathlib.Core.List.{List, [], _∷_}
@@ -16,7 +16,8 @@ use Rattle.calls.specs.Given.{Given}
 use Rattle.calls.specs.Reading.{Tells, TellsBoth, TellsFree, TellsSound, answerBy, valueOf, marked}
 use Rattle.calls.specs.Writing.{Formatted, HandsOutRoot, HandsOutAgain, Edited, Removed, GivenUp}
 
--- What an accepted call answers and leaves.
+-- What an accepted call answers and leaves: RULES 4.1 to 4.16, "answers, when accepted"; RULES 4.32
+-- to 4.40.
 abbrev pub Accepted : Call → List ℕ → Answer → List ℕ → Type 0
 Accepted (Call.format n v) ws a ws' = Formatted n v ws a ws'
 Accepted Call.new ws a ws' = HandsOutRoot ws 0 0 a ws'
@@ -35,7 +36,8 @@ Accepted (Call.step d w) ws a ws' = Tells ws (w .slot) (λ xs. answerBy Answer.e
 Accepted (Call.rescale-mark s) ws a ws' = Tells ws s (λ xs. some (Answer.truth (marked xs))) a ws'
 Accepted Call.soundness-test ws a ws' = TellsSound ws a ws'
 
--- "They are tested in the order of the table"; "A refused call changes no lent word."
+-- RULES 4.18: "It answers the first that is due, and is accepted where none is." RULES 4.19: "A
+-- refused call leaves every lent word as it was."
 abbrev pub Decided : List Refusal → Call → List ℕ → Answer → List ℕ → Type 0
 Decided [] c ws a ws' = Accepted c ws a ws'
 Decided (r ∷ rs) c ws a ws' =

@@ -1,4 +1,5 @@
--- What the calls that only read answer. "Format, new, hold, release, insert and remove write to the arena; no other call does."
+-- What the calls that only read answer: RULES 4.5 to 4.9 and 4.12 to 4.16. RULES 4.20: they never
+-- write to the arena.
 use mathlib.Core.Path.{_≡_}
 use mathlib.Core.Logic.{_⊎_}
 use mathlib.Core.Bool.{Bool, true, false, _||_}
@@ -29,18 +30,20 @@ pub record TellsBoth (ws : List ℕ) (s t : ℕ) (f : List Entry → List Entry 
   pub answer : a ≡ f (listing tree) (listing other)
   pub unchanged : ws' ≡ ws
 
--- How many nodes are free.
+-- RULES 4.6: "the free number".
 pub record TellsFree (ws : List ℕ) (a : Answer) (ws' : List ℕ) : Type 0 where
   pub before : Sound ws
   pub answer : a ≡ Answer.number (freeNumber before)
   pub unchanged : ws' ≡ ws
 
--- "The soundness test answers yes exactly when the arena is sound, otherwise no, and writes nothing."
+-- RULES 4.40: "yes is its answer exactly for a sound arena, and no for any other. It writes
+-- nothing."
 pub record TellsSound (ws : List ℕ) (a : Answer) (ws' : List ℕ) : Type 0 where
   pub answer : (Sound ws × (a ≡ Answer.truth true)) ⊎ ((Sound ws → ⊥) × (a ≡ Answer.truth false))
   pub unchanged : ws' ≡ ws
 
--- The answer made of the entry that was found, if one was: `get` answers its value, `first`, `last` and a walk's step the entry itself.
+-- The answer made of the entry that was found, if one was. RULES 4.7: `get` answers its value;
+-- RULES 4.8, 4.9, 4.14: `first`, `last` and a walk step the entry itself.
 abbrev pub answerBy : (Entry → Answer) → Option Entry → Option Answer
 answerBy f none = none
 answerBy f (some e) = some (f e)
@@ -48,11 +51,11 @@ answerBy f (some e) = some (f e)
 abbrev pub valueOf : Entry → Answer
 valueOf e = Answer.value (e .value)
 
--- "A key is group × 65,536 + element."
+-- RULES 2.1: "65,536 times the group, plus the element".
 abbrev pub tag : ℕ → ℕ → ℕ
 tag group element = group * 65536 + element
 
--- "(0028,1053) Rescale Slope": hexadecimal 28 is 40, 1053 is 4,179.
+-- RULES 2.2: "Rescale Slope, (0028,1053)"; hexadecimal 28 is 40, 1053 is 4,179.
 abbrev pub rescaleSlope : ℕ
 rescaleSlope = tag 40 4179
 
@@ -63,6 +66,6 @@ abbrev pub holdsAny : List ℕ → List Entry → Bool
 holdsAny [] xs = false
 holdsAny (k ∷ ks) xs = isSome (find k xs) || holdsAny ks xs
 
--- "yes exactly when the version holds (0028,1053)"
+-- RULES 8.4: "The rescale mark is yes exactly when the version holds (0028,1053)."
 abbrev pub marked : List Entry → Bool
 marked xs = holdsAny markTags xs

@@ -1,10 +1,11 @@
--- Document 01's table, by calls: which slots a call names, and which refusals it tests, in which order.
+-- RULES 4.1 to 4.16, 4.18, 4.30: which slots a call names, and which refusals it tests, in which
+-- order.
 use mathlib.Core.List.{List, [], _∷_}
 use Prim.Native.Nat.{ℕ}
 use Rattle.calls.specs.Refusal.{Refusal}
 use Rattle.calls.specs.Call.{Call}
 
--- The slots that a call names.
+-- RULES 4.30: "A call names the slots that it is given, and a walk step the slot of its walk."
 abbrev pub slotsOf : Call → List ℕ
 slotsOf (Call.format n v) = []
 slotsOf Call.new = []
@@ -23,7 +24,7 @@ slotsOf (Call.step d w) = w .slot ∷ []
 slotsOf (Call.rescale-mark s) = s ∷ []
 slotsOf Call.soundness-test = []
 
--- "They are tested in the order of the table."
+-- RULES 4.1 to 4.16, the column "tests"; RULES 4.18: "in the order of the table".
 abbrev pub tests : Call → List Refusal
 tests (Call.format n v) = Refusal.bad-shape ∷ []
 tests Call.new = Refusal.unsound ∷ (Refusal.no-slot ∷ [])

@@ -5,12 +5,12 @@ use Rattle.trees.specs.Tree.{Tree}
 use Rattle.words.specs.Layout.{nodes, slots, slotRoot}
 use Rattle.words.specs.Reads.{Reads, Held}
 
--- Slot s is held, and the version that it holds is the tree t.
+-- RULES 2.19: slot s is held, and its version is the tree t, "the tree at its root".
 pub record VersionIs (ws : List ℕ) (s : ℕ) (t : Tree) : Type 0 where
   pub held : Held ws s
   pub reads : Reads (nodes ws) ws (slotRoot (nodes ws) ws s) t
 
--- "A call that hands out a slot gives the lowest one not held."
+-- RULES 4.21: "A slot that is handed out is the lowest that is not held."
 pub record Lowest (ws : List ℕ) (q : ℕ) : Type 0 where
   pub below : q < slots ws
   pub not-held : Held ws q → ⊥

@@ -1,4 +1,5 @@
--- What the calls that write leave: every word, but for document 01's three exceptions, which concern insert, remove and release only.
+-- What the calls that write leave, RULES 4.32 to 4.39: every word, but for the three exceptions of
+-- RULES 11.2, which concern insert, remove and release alone.
 use mathlib.Core.Path.{_≡_}
 use mathlib.Core.List.{List}
 use mathlib.Core.Option.{none, some}
@@ -17,8 +18,9 @@ use Rattle.calls.specs.Call.{Answer}
 use Rattle.calls.specs.Version.{VersionIs, Lowest}
 use Rattle.words.specs.Fresh.{relabel, wasFree}
 
--- "Format accepts any old contents, records the N and V it is given, makes all nodes free and no slot held." The nodes are listed in the order
--- of their numbers, and a node keeps its key, value, right link and colour: every word is given.
+-- RULES 4.32: "Format accepts whatever the slice held. It records its N and V in words 0 and 1;
+-- every node is then free, and no slot is held." RULES 4.33: every other word. The nodes are listed
+-- in the order of their numbers, and "key, value, right link and colour of a node stay".
 pub record Formatted (n v : ℕ) (ws : List ℕ) (a : Answer) (ws' : List ℕ) : Type 0 where
   pub limits : Limits n v (length ws)
   pub answer : a ≡ Answer.done
@@ -32,7 +34,8 @@ pub record Formatted (n v : ℕ) (ws : List ℕ) (a : Answer) (ws' : List ℕ) :
       getD ws' (nodeWords * i + k) 0 ≡ getD ws (nodeWords * i + k) 0
   pub not-held : (s : ℕ) → s < v → (slotRoot n ws' s ≡ notHeld) × (slotSize n ws' s ≡ 0)
 
--- A slot for a root that is there already, or none, with its size: the two words of the slot, and one name more for the root.
+-- RULES 4.34, 4.35: a slot for a root that is there already, or none, with its size. The two words
+-- of the slot, one name more for the root, "and nothing else".
 pub record HandsOutRoot (ws : List ℕ) (root size : ℕ) (a : Answer) (ws' : List ℕ) : Type 0 where
   pub before : Sound ws
   pub out : ℕ
@@ -40,19 +43,21 @@ pub record HandsOutRoot (ws : List ℕ) (root size : ℕ) (a : Answer) (ws' : Li
   pub answer : a ≡ Answer.slot out
   pub words-are : ws' ≡ slotting (nodes ws) (raising ws root) out root size
 
--- "a second slot for the same version"
+-- RULES 4.3: "a second slot for the same version".
 pub record HandsOutAgain (ws : List ℕ) (s : ℕ) (a : Answer) (ws' : List ℕ) : Type 0 where
   pub held : Held ws s
   pub hands-out : HandsOutRoot ws (slotRoot (nodes ws) ws s) (slotSize (nodes ws) ws s) a ws'
 
--- Outside the nodes all words are equal, but the head of the free list and the two words of slot q: N, V, the spare words, every other slot.
+-- RULES 4.39: "Outside the nodes only the head and the two words of the slot given up or handed out
+-- have changed": N, V, the spare words and every other slot are as they were.
 pub record AllButSlot (q : ℕ) (ws ws' : List ℕ) : Type 0 where
   pub long : length ws' ≡ length ws
   pub header : (k : ℕ) → k < headerWords → (k ≡ headWord → ⊥) → getD ws' k 0 ≡ getD ws k 0
   pub roots : (s : ℕ) → s < slots ws → (s ≡ q → ⊥) → slotRoot (nodes ws) ws' s ≡ slotRoot (nodes ws) ws s
   pub sizes : (s : ℕ) → s < slots ws → (s ≡ q → ⊥) → slotSize (nodes ws) ws' s ≡ slotSize (nodes ws) ws s
 
--- A slot for the tree u: the tree that the words hold there is u, with the nodes that were free before the call read as fresh.
+-- RULES 4.37: a slot for the tree u. The tree that the words hold there is u, with the nodes that
+-- were free before the call read as fresh (RULES 6.36).
 pub record HandsOutTree (ws : List ℕ) (u : Tree) (a : Answer) (ws' : List ℕ) : Type 0 where
   pub before : Sound ws
   pub after : Sound ws'
@@ -61,26 +66,29 @@ pub record HandsOutTree (ws : List ℕ) (u : Tree) (a : Answer) (ws' : List ℕ)
   pub answer : a ≡ Answer.slot out
   pub tree : Tree
   pub version : VersionIs ws' out tree
-  -- "Shape and colours of a new version are those of 000's steps", sharing and the nodes taken too
+  -- RULES 6.10: "A new version has the shape and the colours that 000's steps give it"; RULES 6.34
+  -- to 6.36: sharing and the nodes taken too.
   pub tree-is : relabel (wasFree ws) tree ≡ u
   pub size-is : slotSize (nodes ws) ws' out ≡ size u
   pub others : AllButSlot out ws ws'
-  -- Every node that was live keeps its words but its count, which soundness gives.
+  -- RULES 4.39: "after an insert or a remove each node that was in use .. has the words that it
+  -- had, but for its count", which soundness gives.
   pub live-kept : (j : ℕ) → Live (nodes ws) ws j → Agree ws ws' j
 
--- A slot for the edited version of slot s, by 000's steps.
+-- RULES 4.37: a slot for the tree that the steps make of the version of slot s.
 pub record Edited (ws : List ℕ) (s : ℕ) (d : Edit) (a : Answer) (ws' : List ℕ) : Type 0 where
   pub parent : Tree
   pub version : VersionIs ws s parent
   pub hands-out : HandsOutTree ws (edit d parent) a ws'
 
--- The version of slot s without the key k, by whether it is there.
+-- RULES 4.37, 4.38: the version of slot s without the key k, by whether it is there.
 pub data Removed (ws : List ℕ) (s k : ℕ) (a : Answer) (ws' : List ℕ) : Type 0 where
   present : {e : Entry} (h : Edited ws s (cutting k) a ws') → find k (listing (h .parent)) ≡ some e → Removed ws s k a ws'
-  -- "Remove of an absent key hands out a slot for the parent's own root .. it never reshapes."
+  -- RULES 4.38: "Remove of an absent key leaves what hold leaves".
   absent : {t : Tree} → VersionIs ws s t → find k (listing t) ≡ none → HandsOutAgain ws s a ws' → Removed ws s k a ws'
 
--- The slot is given up; a node that is still live keeps its words but its count, which soundness gives.
+-- RULES 4.36, 4.39: the slot is given up; each node that is still in use "has the words that it
+-- had, but for its count", which soundness gives.
 pub record GivenUp (ws : List ℕ) (s : ℕ) (a : Answer) (ws' : List ℕ) : Type 0 where
   pub before : Sound ws
   pub after : Sound ws'

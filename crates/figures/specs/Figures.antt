@@ -1,4 +1,5 @@
--- Document 01, "Figures to hold": the starred ones, as rows of a single table under a single claim. `tests/c/cases.c` runs the others.
+-- RULES 10.1: the figures with a star, "as rows of one table under one claim". `tests/c/cases.c`
+-- runs the others.
 use mathlib.Core.Path.{_≡_}
 use mathlib.Core.List.{List, [], _∷_}
 use mathlib.Core.Option.{none}
@@ -23,18 +24,20 @@ pub data Step : Type 0 where
   asks : Call → Answer → Step
   holds : (s : ℕ) → Tree → Step
 
--- H at n is h; or these steps one after the other, on an arena formatted with n nodes and v slots.
+-- A row: H at n is h; or these steps one after the other, on an arena formatted with n nodes and v
+-- slots.
 pub data Row : Type 0 where
   height : (n h : ℕ) → Row
   run : (n v : ℕ) → List Step → Row
 
--- Each call has an outcome that answers so; and whatever outcome it has, it answers so, and the further steps hold of the words that it leaves.
+-- RULES 10.1: each call "can answer so and cannot answer otherwise", and the further steps hold of
+-- the words that it leaves.
 abbrev pub Runs : List ℕ → List Step → Type 0
 Runs ws [] = Unit {0}
 Runs ws (asks c a ∷ xs) = ((w : List ℕ) × Outcome c ws a w) × ((b : Answer) (w : List ℕ) → Outcome c ws b w → (b ≡ a) × Runs w xs)
 Runs ws (holds s t ∷ xs) = ((u : Tree) × VersionIs ws s u × (bare u ≡ t)) × Runs ws xs
 
--- A run starts with an accepted format, whatever a slice of the right length held before.
+-- RULES 10.1: "whatever the slice held before the format", a slice of the right length.
 abbrev pub Claim : Row → Type 0
 Claim (height n h) = H n ≡ h
 Claim (run n v xs) = (old : List ℕ) → length old ≡ arenaWords n v → Runs old (asks (Call.format n v) Answer.done ∷ xs)
@@ -97,10 +100,10 @@ onFive xs = run 10 32 (new ∷ set 0 5 1 ∷ xs)
 abbrev B : Tree → ℕ → Tree → Tree
 B l k r = node (kept 0) black l (e k) r
 
--- "V is 32 where none is named." Where no N is named it is 10.
+-- RULES 10.1: "V is 32 where no V is named, and N is 10 where no N is".
 abbrev pub table : List Row
 table =
-    -- "H at 0, 1, 2, 3, 6, 7, 2,047 is 0, 2, 2, 4, 4, 6, 22."
+    -- RULES 10.2: "H at 0, 1, 2, 3, 6, 7, 2,047: 0, 2, 2, 4, 4, 6, 22."
     height 0 0 ∷
     height 1 2 ∷
     height 2 2 ∷
@@ -108,30 +111,30 @@ table =
     height 6 4 ∷
     height 7 6 ∷
     height 2047 22 ∷
-    -- "Insert 1, 2, 3 into an empty version: root 2, children 1 and 3, all black."
+    -- RULES 10.3: "2 is the root, 1 and 3 are its children, and all three are black."
     run 10 32 (new ∷ set 0 1 1 ∷ set 1 2 2 ∷ set 2 3 3 ∷ holds 3 (B (B leaf 1 leaf) 2 (B leaf 3 leaf)) ∷ []) ∷
-    -- "N = 10, the empty version and all three kept: 1 + 2 + 3 nodes taken, 4 free. Inserting 4 needs 5: NO_ROOM."
+    -- RULES 10.4: "1 + 2 + 3 nodes are taken, 4 are free. To insert 4 needs 5, so it is NO_ROOM."
     run 10 32 (new ∷ free 10 ∷ set 0 1 1 ∷ free 9 ∷ set 1 2 2 ∷ free 7 ∷ set 2 3 3 ∷ free 4 ∷ noRoom (Call.insert 3 (e 4)) ∷ []) ∷
-    -- "With N = 11 it is accepted, takes 3, leaves 2."
+    -- RULES 10.5: "N = 11: that insert is accepted; it takes 3 and leaves 2."
     run 11 32 (new ∷ set 0 1 1 ∷ set 1 2 2 ∷ set 2 3 3 ∷ free 5 ∷ set 3 4 4 ∷ free 2 ∷ []) ∷
-    -- "N = 14, one entry: remove needs 14, 13 are free, NO_ROOM."
+    -- RULES 10.6: "N = 14 ..: its remove needs 14 and 13 are free, so it is NO_ROOM."
     run 14 32 (new ∷ set 0 1 1 ∷ free 13 ∷ noRoom (Call.remove 1 1) ∷ []) ∷
-    -- "N = 15: accepted, the result is empty."
+    -- RULES 10.7: "N = 15: that remove is accepted, and the new version is empty."
     run 15 32 (new ∷ set 0 1 1 ∷ free 14 ∷ asks (Call.remove 1 1) (Answer.slot 2) ∷ holds 2 leaf ∷ asks (Call.size 2) (Answer.number 0) ∷ []) ∷
-    -- "Entries 1, 2: front gives 1, back gives 2, front gives END."
+    -- RULES 10.9: "the front gives 1, the back 2, and then the front END."
     run 10 32 (new ∷ set 0 1 1 ∷ set 1 2 2 ∷ gives (walk 2 front whole) 1 ∷ gives (walk 2 back given1) 2 ∷ ends (walk 2 front given12) ∷ []) ∷
-    -- "On a version with the single entry 5, range from 5 included to 5 excluded: END at once."
+    -- RULES 10.10: "The single entry 5, from 5 included to 5 excluded: END at the first step."
     onFive (ends (walk 1 front (between (included 5) (excluded 5))) ∷ []) ∷
     onFive (ends (walk 1 back (between (included 5) (excluded 5))) ∷ []) ∷
-    -- "5 excluded to 5 excluded: BAD_RANGE."
+    -- RULES 10.11: "from 5 excluded to 5 excluded: BAD_RANGE."
     onFive (badRange (walk 1 front (between (excluded 5) (excluded 5))) ∷ []) ∷
     onFive (badRange (walk 1 back (between (excluded 5) (excluded 5))) ∷ []) ∷
-    -- "6 to 5: BAD_RANGE." Each included or excluded.
+    -- RULES 10.12: "from 6 to 5: BAD_RANGE, each bound being included or excluded".
     onFive (badRange (walk 1 front (between (included 6) (included 5))) ∷ []) ∷
     onFive (badRange (walk 1 front (between (included 6) (excluded 5))) ∷ []) ∷
     onFive (badRange (walk 1 front (between (excluded 6) (included 5))) ∷ []) ∷
     onFive (badRange (walk 1 front (between (excluded 6) (excluded 5))) ∷ []) ∷
-    -- "5 included to 5 included: entry 5, then END."
+    -- RULES 10.13: "from 5 included to 5 included: the entry 5, and END after it."
     onFive (gives (walk 1 front fives) 5 ∷ ends (walk 1 front (stepped front fives (e 5))) ∷ []) ∷
     onFive (gives (walk 1 back fives) 5 ∷ ends (walk 1 back (stepped back fives (e 5))) ∷ []) ∷
     []

@@ -1,16 +1,16 @@
--- 000's `balance` and `insert`, step by step, over plain trees.
+-- 000's `balance` and `insert`, step by step, over plain trees: RULES 6.18 to 6.26.
 use mathlib.Core.Bool.{Bool, _&&_, not}
 use lib.Dec.{ltb}
 use Rattle.heights.specs.Choice.{if_then_else_}
 use Rattle.trees.specs.Tree.{Entry, red, black, fresh, Tree, leaf, node, lf, rt, en, isRed, isBlack, paint}
 use Rattle.trees.specs.Lookup.{has}
 
--- "The middle key rises red, its children are black."
+-- RULES 6.23: "the middle entry goes up as a red node and has two black children".
 abbrev pub risen : Tree → Entry → Tree → Entry → Tree → Entry → Tree → Tree
 risen a x b y c z d = node fresh red (node fresh black a x b) y (node fresh black c z d)
 
--- "four cases at a black node only, tried in source order: left and left-left red; left and left-right red; right and right-left red;
--- right and right-right red"
+-- RULES 6.18: "`balance` changes a black node only, by the first of 6.19 to 6.22 that fits, in this
+-- order": left and left-left red; left and left-right; right and right-left; right and right-right.
 unfoldable pub balance : Tree → Tree
 balance t =
     let l = lf t in
@@ -22,11 +22,13 @@ balance t =
     else if isRed r && isRed (rt r) then risen l (en t) (lf r) (en r) (lf (rt r)) (en (rt r)) (rt (rt r))
     else t
 
--- "balance runs at each node on the way up" where the key is new: `if is_new_key { node.balance(); }`
+-- RULES 6.25: "For a new key `balance` runs at each node of the path, on the way up."
+-- `if is_new_key { node.balance(); }`
 abbrev pub settle : Bool → Tree → Tree
 settle present t = if present then t else balance t
 
--- `ins`: every node on the way is made mutable; "equal key replaces the whole entry .., no balance"; "A new key is red".
+-- RULES 6.24: "At an equal key the entry is replaced whole, and no `balance` runs. At a missing
+-- child a new key becomes a red node with no children." 000's `ins`.
 unfoldable pub ins : Entry → Tree → Tree
 ins x leaf = node fresh red leaf x leaf
 ins x (node p c l e r) =
@@ -34,6 +36,6 @@ ins x (node p c l e r) =
     else if ltb (e .key) (x .key) then settle (has (x .key) r) (node fresh c l e (ins x r))
     else node fresh c l x r
 
--- "the root ends black"
+-- RULES 6.26: "The root ends black".
 unfoldable pub insert : Entry → Tree → Tree
 insert x t = paint black (ins x t)

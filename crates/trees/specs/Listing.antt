@@ -1,4 +1,5 @@
--- Listings: entries in ascending order of their keys, and what a lookup or an edit means over them.
+-- Listings: entries by rising key (RULES 2.5), and what a lookup or an edit means over them
+-- (RULES 6.13, 6.14).
 use Prim.Native.Nat.{ℕ, _<_}
 use mathlib.Core.Bool.{Bool, true, false}
 use mathlib.Core.List.{List, [], _∷_}
@@ -16,17 +17,19 @@ abbrev pub Below : ℕ → List Entry → Type 0
 Below k [] = Unit {0}
 Below k (e ∷ xs) = (e .key < k) × Below k xs
 
--- "keys are strictly ascending in listing order": each is below all that follow it.
+-- RULES 3.4: "In the listing .. each key is above the one before it": each is below all that
+-- follow.
 abbrev pub Ascending : List Entry → Type 0
 Ascending [] = Unit {0}
 Ascending (e ∷ xs) = Above (e .key) xs × Ascending xs
 
--- `get`: the entry with the key, if any.
+-- RULES 6.13: "`get`: the entry with the key, if one has it."
 abbrev pub find : ℕ → List Entry → Option Entry
 find k [] = none
 find k (e ∷ xs) = if eqb k (e .key) then some e else find k xs
 
--- `insert`: "equal key replaces the whole entry, size unchanged"; a new key goes to its place.
+-- RULES 6.14: "`insert`: the entry with an equal key is replaced whole, so the size stays; a new
+-- key goes to its place."
 abbrev pub put : Entry → List Entry → List Entry
 put x [] = x ∷ []
 put x (e ∷ xs) =
@@ -34,12 +37,12 @@ put x (e ∷ xs) =
     else if ltb (e .key) (x .key) then e ∷ put x xs
     else x ∷ xs
 
--- `remove`: without the entry with the key; an absent key changes nothing.
+-- RULES 6.14: "`remove`: the entry with the key goes; an absent key changes nothing."
 abbrev pub cut : ℕ → List Entry → List Entry
 cut k [] = []
 cut k (e ∷ xs) = if eqb k (e .key) then xs else e ∷ cut k xs
 
--- `first` and `last`: the two ends, if there is an entry.
+-- RULES 6.13: "`first` and `last`: its two ends, if any."
 abbrev pub firstOf : List Entry → Option Entry
 firstOf [] = none
 firstOf (e ∷ xs) = some e

@@ -1,4 +1,5 @@
--- A pure model of a commit: a planned tree, whose fresh nodes are not in the arena yet, is put there.
+-- A pure model of a commit: a planned tree, whose fresh nodes are not in the arena yet, is put
+-- there (RULES 6.34 to 6.36).
 use mathlib.Core.List.{List, [], _∷_, _++_}
 use Prim.Native.Nat.{ℕ}
 use Rattle.trees.specs.Tree.{kept, fresh, Tree, leaf, node}

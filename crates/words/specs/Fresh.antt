@@ -7,7 +7,8 @@ use Rattle.heights.specs.Choice.{if_then_else_}
 use Rattle.trees.specs.Tree.{Place, kept, fresh, Tree, leaf, node}
 use Rattle.words.specs.Layout.{count}
 
--- "A node that 000 makes mutable and that remains in the new tree is fresh there ..; every other node is shared with the parent version."
+-- RULES 6.36: "A fresh node stands in a node of the arena that was free before the call". Every
+-- other node is shared (RULES 6.35).
 abbrev pub relabelPlace : (ℕ → Bool) → Place → Place
 relabelPlace isNew (kept i) = if isNew i then fresh else kept i
 relabelPlace isNew fresh = fresh
@@ -17,6 +18,6 @@ abbrev pub relabel : (ℕ → Bool) → Tree → Tree
 relabel isNew leaf = leaf
 relabel isNew (node p c l e r) = node (relabelPlace isNew p) c (relabel isNew l) e (relabel isNew r)
 
--- A node is new where it was free before the call: its count was 0.
+-- RULES 6.36: "whose count was 0".
 abbrev pub wasFree : List ℕ → ℕ → Bool
 wasFree ws i = eqb (count ws i) 0

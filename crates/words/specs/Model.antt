@@ -15,12 +15,13 @@ storing ws a k (x ∷ xs) = storing (set ws (a + k) x) a (suc k) xs
 unfoldable pub withCount : List ℕ → ℕ → ℕ → List ℕ
 withCount ws i c = set ws (nodeWords * i + countWord) c
 
--- Count up: one name more for node i; none has no count.
+-- RULES 6.3: "Counting up gives a node one name more"; none has no count.
 unfoldable pub raising : List ℕ → ℕ → List ℕ
 raising ws zero = ws
 raising ws (suc i) = withCount ws (suc i) (count ws (suc i) + 1)
 
--- Make node: the first free node is taken and written whole, with count 1.
+-- Make node: the first free node is taken and written whole, with count 1. Which free node it is,
+-- and where a freed one is listed, RULES 11.2 leaves open.
 unfoldable pub making : List ℕ → Color → ℕ → Entry → ℕ → List ℕ
 making ws c l e r =
     storing
@@ -33,7 +34,9 @@ making ws c l e r =
 unfoldable pub freeing : List ℕ → ℕ → List ℕ
 freeing ws i = set (set (set ws (nodeWords * i + countWord) 0) (nodeWords * i + leftWord) (head ws)) headWord i
 
--- Release: one name less for the link i. "A node freed releases its children." The first number bounds the height of the tree at i.
+-- RULES 6.3: one name less for the link i. "A node that loses its last name is freed, and with it
+-- each of its children loses a name in the same way." The first number bounds the height of the
+-- tree at i.
 unfoldable pub releasing : ℕ → List ℕ → ℕ → List ℕ
 releasing zero ws i = ws
 releasing (suc h) ws zero = ws
@@ -49,10 +52,10 @@ freed (suc h) ws (suc i) =
     if ltb 1 (count ws (suc i)) then 0
     else freed h (freeing ws (suc i)) (left ws (suc i)) + freed h (releasing h (freeing ws (suc i)) (left ws (suc i))) (right ws (suc i)) + 1
 
--- A root and a size go into slot s, of an arena of n nodes.
+-- A root and a size go into slot s (RULES 2.14), of an arena of n nodes.
 unfoldable pub slotting : ℕ → List ℕ → ℕ → ℕ → ℕ → List ℕ
 slotting n ws s r z = storing ws (nodeWords * n + slotWords * s) rootWord (r ∷ (z ∷ []))
 
--- Slot s is given up.
+-- RULES 4.36: slot s is given up.
 abbrev pub unslotting : ℕ → List ℕ → ℕ → List ℕ
 unslotting n ws s = slotting n ws s notHeld 0

@@ -1,5 +1,7 @@
--- What a running call keeps of an arena: every node's count is the number of its names, by child places of live nodes, by slots and by the
--- links that the call itself holds, P. A node is live when its count is above 0. The arena has n nodes and v slots.
+-- What a running call keeps of an arena, while RULES 3.7 is not yet true again: every node's count
+-- is the number of its names, by child places of live nodes, by slots and by the links that the
+-- call itself holds, P. A node is live, or in use (RULES 4.39), when its count is above 0. The
+-- arena has n nodes and v slots.
 use mathlib.Core.Path.{_≡_}
 use mathlib.Core.Logic.{_⊎_}
 use mathlib.Core.List.{List}
@@ -36,7 +38,7 @@ names n v ws P i = sum (kids ws i) 1 n + sum (held n ws i) 0 v + occ i P
 abbrev pub Live : ℕ → List ℕ → ℕ → Type 0
 Live n ws i = (1 ≤ i) × (i ≤ n) × (1 ≤ count ws i)
 
--- The header records n and v, which are within their limits and agree with the length.
+-- RULES 3.1: the header records n and v, which keep to their limits and agree with the length.
 pub record Shaped (n v : ℕ) (ws : List ℕ) : Type 0 where
   pub limits : Limits n v (length ws)
   pub n-is : nodes ws ≡ n
@@ -60,21 +62,21 @@ pub record Owned (Valid : ℕ → Tree → ℕ → Type 0) (n v : ℕ) (ws P : L
   pub frees : (i : ℕ) → 1 ≤ i → i ≤ n → occ i free ≡ idle (count ws i)
   pub versions : (s : ℕ) → s < v → Version Valid n ws s
 
--- What a slot of a sound arena holds: a fine tree, with its number of entries.
+-- What a slot of a sound arena holds: a fine tree, with its number of entries (RULES 3.3 to 3.6).
 abbrev pub Sized : ℕ → Tree → ℕ → Type 0
 Sized s t z = Fine t × (z ≡ size t)
 
--- How many of the n nodes are free.
+-- How many of the n nodes are free (RULES 3.10).
 unfoldable pub idleAt : List ℕ → ℕ → ℕ
 idleAt ws j = idle (count ws j)
 
 unfoldable pub idles : ℕ → List ℕ → ℕ
 idles n ws = sum (idleAt ws) 1 n
 
--- The words of node j but its count are the same in both.
+-- RULES 4.39: node j "has the words that it had, but for its count".
 abbrev pub Agree : List ℕ → List ℕ → ℕ → Type 0
 Agree ws ws' j = (k : ℕ) → keyWord ≤ k → k < countWord → getD ws' (nodeWords * j + k) 0 ≡ getD ws (nodeWords * j + k) 0
 
--- What a release leaves: a live node was live, with the same words.
+-- RULES 4.39: after a release each node that is still live was live, with the same words.
 abbrev pub Kept : ℕ → List ℕ → List ℕ → Type 0
 Kept n ws ws' = (j : ℕ) → Live n ws' j → Live n ws j × Agree ws ws' j
