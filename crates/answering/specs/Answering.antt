@@ -1,4 +1,5 @@
--- What the program makes of a command: the call, and the reply to what the call answers.
+-- What the program makes of a command, RULES 9.6 to 9.13: the call, and the reply to what the call
+-- answers.
 use mathlib.Core.Path.{_≡_}
 use mathlib.Core.List.{List}
 use mathlib.Core.Option.{Option, none}
@@ -13,11 +14,12 @@ use Rattle.decimal.specs.Decimal.{largest}
 use Rattle.commands.specs.declared.Command.{Command}
 use Rattle.replies.specs.declared.Reply.{Reply}
 
--- A walk from no bounds that has given the entries up to a last key, if any.
+-- RULES 9.12: "front steps over S, unbounded": the walk that has given the entries up to a last
+-- key, if any.
 abbrev pub walkFrom : ℕ → Option ℕ → Walk
 walkFrom s last = record { slot = s; range = record { start = unbounded; end = unbounded; given-front = last; given-back = none } }
 
--- A listing is a walk; this is its first step.
+-- RULES 9.6 to 9.12, the column "call". A listing is a walk; this is its first step.
 abbrev pub callOf : Command → Call
 callOf Command.New = Call.new
 callOf (Command.Hold s) = Call.hold s
@@ -27,11 +29,11 @@ callOf (Command.Drop s) = Call.release s
 callOf (Command.Get s k) = Call.get s k
 callOf (Command.List s) = Call.step front (walkFrom s none)
 
--- END ends a listing; any other refusal is written by its number.
+-- RULES 9.13: "The END of a listing is its `end`"; any other refusal is written by its number.
 abbrev pub refusalReply : Refusal → Reply
 refusalReply r = if eqb (number r) 8 then Reply.End else Reply.Refused (number r)
 
--- No command makes a call that answers a sign or a truth.
+-- RULES 9.6 to 9.12, the last column. No command makes a call that answers a sign or a truth.
 abbrev pub replyOf : Answer → Reply
 replyOf (Answer.refused r) = refusalReply r
 replyOf Answer.done = Reply.Done

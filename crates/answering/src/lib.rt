@@ -1,4 +1,5 @@
-// What document 01's program makes of a command: the call, and the reply to what the call answers.
+// What the program makes of a command, RULES 9.6 to 9.13: the call, and the reply to what the call
+// answers.
 use answers::EntryAnswer;
 use answers::Refusal;
 use answers::ValueAnswer;
@@ -26,7 +27,7 @@ ghost use Rattle.answers.specs.Answers.{refusalOf, valueAnswer, entryAnswer};
 ghost use Rattle.versions.specs.Slots.{slotAnswer, doneAnswer};
 ghost use Rattle.answering.specs.Answering.{walkFrom, callOf, RepliesTo, Replies};
 
-// The page's number of END.
+// RULES 4.29: the number of END.
 const END: u32 = 8;
 
 fn refusal_reply(r: Refusal) -> Reply

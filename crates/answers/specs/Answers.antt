@@ -1,4 +1,5 @@
--- The page's answers, from the answers that the functions give.
+-- The answers of RULES 4.17, from the answers that the functions give. RULES 13.15: "For each case
+-- a definition gives the number or value of this page, and the promises use that definition."
 use Prim.Native.Nat.{ℕ}
 use Rattle.trees.specs.Order as order
 use Rattle.arena.specs.Nodes.{entryOf}
@@ -14,6 +15,7 @@ use Rattle.answers.specs.declared.SignAnswer.{SignAnswer}
 use Rattle.answers.specs.declared.Sign.{Sign}
 use Rattle.answers.specs.declared.Sign.the-variants.{Less, Same, More}
 
+-- RULES 4.22 to 4.29.
 abbrev pub refusalOf : Refusal → calls.Refusal
 refusalOf BadShape = calls.Refusal.bad-shape
 refusalOf Unsound = calls.Refusal.unsound
@@ -43,6 +45,7 @@ abbrev pub truthAnswer : TruthAnswer → call.Answer
 truthAnswer (TruthAnswer.Truth b) = call.Answer.truth b
 truthAnswer (TruthAnswer.Refused r) = call.Answer.refused (refusalOf r)
 
+-- RULES 8.1.
 abbrev pub signOf : Sign → order.Sign
 signOf Less = order.less
 signOf Same = order.same

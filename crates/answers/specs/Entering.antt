@@ -1,4 +1,5 @@
--- The first two tests of nearly every call, on a sound arena: the root of the named slot, or the refusal.
+-- The first two tests of nearly every call (RULES 4.23, 4.24), on a sound arena: the root of the
+-- named slot, or NO_VERSION.
 use mathlib.Core.Path.{_≡_}
 use mathlib.Core.List.{List}
 use Prim.Native.Nat.{ℕ}

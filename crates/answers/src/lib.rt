@@ -1,4 +1,5 @@
-// Document 01's refusals, what the calls that read answer, and the way into the version of a slot, on a sound arena.
+// The refusals, what the calls that read answer, and the way into the version of a slot, on a sound
+// arena.
 use arena::Entry;
 use arena::NOT_HELD;
 use arena::nodes_of;
@@ -9,7 +10,7 @@ ghost use Rattle.words.specs.Sound.{Sound};
 ghost use Rattle.answers.specs.Answers.{refusalNumber};
 ghost use Rattle.answers.specs.Entering.{Enters};
 
-// Document 01's refusals, in the order of its table.
+// The refusals, in the order of the table of RULES 4.22 to 4.29.
 pub enum Refusal {
     BadShape,
     Unsound,
@@ -21,7 +22,7 @@ pub enum Refusal {
     End,
 }
 
-// The page's number of a refusal.
+// The number of a refusal in that table.
 pub fn number(r: Refusal) -> u32
     ensures { λ x. ⌜ x ≡ refusalNumber r ⌝ }
 {
@@ -57,7 +58,7 @@ pub enum TruthAnswer {
     Refused(Refusal),
 }
 
-// -1, 0 or 1 of document 01's compare.
+// RULES 8.1: -1, 0 or 1.
 pub enum Sign {
     Less,
     Same,

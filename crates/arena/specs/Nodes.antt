@@ -1,4 +1,5 @@
--- What the functions of this crate hand over: a node by value, and what they ask of the words.
+-- What the functions of this crate hand over: a node by value (RULES 13.3), and what they ask of
+-- the words.
 use mathlib.Core.Path.{_≡_}
 use mathlib.Core.List.{List}
 use Prim.Native.Nat.{ℕ, _+_, _*_, _≤_}
@@ -11,11 +12,11 @@ use Rattle.arena.specs.declared.Node.{Node}
 abbrev pub entryOf : Entry → trees.Entry
 entryOf e = record { key = e .key; value = e .value }
 
--- Node i has its words in the arena.
+-- Node i has its words (RULES 2.13) in the arena.
 abbrev pub NodeInside : List ℕ → ℕ → Type 0
 NodeInside ws i = nodeWords * i + headerWords ≤ length ws
 
--- Slot s has its words in an arena of n nodes.
+-- Slot s has its words (RULES 2.14) in an arena of n nodes.
 abbrev pub SlotInside : ℕ → List ℕ → ℕ → Type 0
 SlotInside n ws s = nodeWords * n + slotWords * s + (headerWords + slotWords) ≤ length ws
 

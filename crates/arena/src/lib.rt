@@ -1,4 +1,4 @@
-// The arena's words: nodes as they are read, and the slots. Module 2 of document 01's port order, with `nodes`.
+// The arena's words: nodes as they are read, and the slots. Module 2 (RULES 6.2), with `nodes`.
 ghost use mathlib.Core.Path.{_≡_};
 ghost use Prim.Native.Nat.{_≤_};
 ghost use lib.ListN.{length};
@@ -6,7 +6,8 @@ ghost use Rattle.words.specs.Layout.{nodes, slots, head, left, right, count, sl
 ghost use Rattle.words.specs.Model.{slotting};
 ghost use Rattle.arena.specs.Nodes.{NodeInside, SlotInside, IsNode};
 
-// The limits of document 01, and the height that no version within them exceeds: H(2,047), and H(2,048) too.
+// RULES 2.7: the limits of N and V. RULES 5.8: the height that no version within them exceeds,
+// H(2,047), and H(2,048) too.
 pub const MAX_NODES: u32 = 2047;
 
 pub const MAX_SLOTS: u32 = 32;
@@ -17,10 +18,11 @@ pub const RED: u32 = 0;
 
 pub const BLACK: u32 = 1;
 
-// The root word of a slot that is not held.
+// RULES 2.17: the root word of a slot that is not held.
 pub const NOT_HELD: u32 = 4294967295;
 
-// The layout of docs/LAYOUT.md: each number has one name here and one in the definitions of `words`.
+// The layout, RULES 2.8 to 2.14: each number has one name here and one in the definitions of
+// `words`.
 pub const HEADER_WORDS: usize = 8;
 
 pub const NODE_WORDS: usize = 6;

@@ -1,4 +1,4 @@
-// 000's `balance` on a read-only arena and a plan. Module 4 of document 01's port order.
+// 000's `balance` on a read-only arena and a plan. Module 4 (RULES 6.5).
 ghost use mathlib.Core.Path.{_≡_};
 ghost use Rattle.trees.specs.Insert.{balance as balanceOf};
 ghost use Rattle.plan.specs.Held.{Some, Room};
@@ -11,7 +11,8 @@ use plan::both_red;
 use plan::look;
 use planning::push;
 
-// "The middle key rises red, its children are black": y between x and z.
+// RULES 6.23: "the middle entry goes up as a red node and has two black children": y between x and
+// z.
 fn rise(ws: &[u32], plan: &mut [u32], x: Node, y: Node, z: Node) -> u32
     requires { ⌜ Room (now ws) (now plan) balanceRoom ⌝ }
     ensures { λ r. ⌜ Rises (now (ws .entry)) (now (plan .entry)) (now (plan .exit)) x y z r ⌝ }
@@ -27,7 +28,8 @@ fn rise(ws: &[u32], plan: &mut [u32], x: Node, y: Node, z: Node) -> u32
     push(ws, plan, top)
 }
 
-// The third and the fourth case of `balance`, at a black node to which the first two do not apply.
+// RULES 6.21, 6.22: the third and the fourth case, at a black node to which the first two do not
+// apply.
 fn balance_right(ws: &[u32], plan: &mut [u32], x: Node) -> u32
     requires { ⌜ Room (now ws) (now plan) balanceRoom ⌝ }
     requires { ⌜ x .color ≡ 1 ⌝ }
@@ -53,7 +55,7 @@ fn balance_right(ws: &[u32], plan: &mut [u32], x: Node) -> u32
     push(ws, plan, x)
 }
 
-// The four cases at a black node, in source order.
+// RULES 6.19 to 6.22: the four cases at a black node, in this order.
 fn balance_black(ws: &[u32], plan: &mut [u32], x: Node) -> u32
     requires { ⌜ Room (now ws) (now plan) balanceRoom ⌝ }
     requires { ⌜ x .color ≡ 1 ⌝ }
@@ -79,7 +81,7 @@ fn balance_black(ws: &[u32], plan: &mut [u32], x: Node) -> u32
     balance_right(ws, plan, x)
 }
 
-// "four cases at a black node only": x is written down with what balances it.
+// RULES 6.18: "`balance` changes a black node only": x is written down with what balances it.
 pub fn balance(ws: &[u32], plan: &mut [u32], x: Node) -> u32
     requires { ⌜ Room (now ws) (now plan) balanceRoom ⌝ }
     requires { ⌜ Some (now ws) (now plan) (x .left) ⌝ }

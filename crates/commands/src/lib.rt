@@ -1,4 +1,4 @@
-// The commands of document 01's program: a line taken apart.
+// The commands of the program, RULES 9.6 to 9.12: a line taken apart.
 use decimal::Found;
 use decimal::number;
 ghost use mathlib.Core.Path.{_≡_};

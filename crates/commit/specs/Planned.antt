@@ -1,4 +1,5 @@
--- What a commit asks of the plan and of the arena, and what it leaves: the models of `words`, at the tree that is planned.
+-- What a commit asks of the plan and of the arena, and what it leaves: the models of `words`, at
+-- the tree that is planned. RULES 6.34 to 6.36: fresh nodes and shared ones.
 use mathlib.Core.Path.{_≡_}
 use mathlib.Core.List.{List, _++_}
 use Prim.Native.Nat.{ℕ, _+_, _-_, _^_, _≤_, _<_}

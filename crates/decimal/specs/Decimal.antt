@@ -1,10 +1,10 @@
--- The decimal text of a number, as bytes: no leading zero, and 0 alone is "0".
+-- RULES 9.5: the decimal text of a number, as bytes: "no leading zeros, and 0 is `0`".
 use Prim.Native.Nat.{ℕ, zero, suc, _+_, _/_, _%_}
 use mathlib.Core.List.{List, [], _∷_, _++_}
 use lib.Dec.{ltb}
 use Rattle.heights.specs.Choice.{if_then_else_}
 
--- "numbers up to 4,294,967,295"
+-- RULES 9.5: "at most 4,294,967,295".
 abbrev pub largest : ℕ
 largest = 4294967295
 

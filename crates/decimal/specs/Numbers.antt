@@ -13,7 +13,8 @@ use Rattle.decimal.specs.declared.Found.{Found}
 abbrev pub isDigit : ℕ → Bool
 isDigit b = leb 48 b && leb b 57
 
--- The number that a value and the digits after it make, and what follows: a 0 takes no digit after it, and no number is above the largest.
+-- The number that a value and the digits after it make, and what follows. RULES 9.5: a 0 takes no
+-- digit after it, and no number is above the largest.
 unfoldable pub numberFrom : ℕ → List ℕ → Option (ℕ × List ℕ)
 numberFrom v [] = some (v, [])
 numberFrom v (b ∷ rest) =

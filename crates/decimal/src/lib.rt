@@ -12,7 +12,7 @@ pub enum Found {
     Nothing,
 }
 
-// The largest number that a line may have.
+// RULES 9.5: the largest number that a line may have.
 const LARGEST: u64 = 4294967295;
 
 fn is_digit(b: u8) -> bool
@@ -39,7 +39,8 @@ fn with_digit(value: u32, b: u8) -> u64
     (value as u64) * 10 + (digit_value(b) as u64)
 }
 
-// The number whose digits go on at the place, after those that made the value. A 0 takes no digit after it.
+// The number whose digits go on at the place, after those that made the value. A 0 takes no digit
+// after it (RULES 9.5).
 fn number_from(line: &[u8], at: usize, value: u32) -> Found
     ensures { λ r. ⌜ Finds (now (line .entry)) r (numberFrom value (drop at (now (line .entry)))) ⌝ }
 {
@@ -95,7 +96,7 @@ pub fn put_text(out: &mut [u8], at: usize, text: &[u8]) -> usize
     at + k
 }
 
-// Writes the decimal text of the number.
+// Writes the decimal text of the number (RULES 9.5).
 pub fn put_number(out: &mut [u8], at: usize, n: u32) -> usize
     requires { ⌜ HasRoom (now out) at (digits n) ⌝ }
     ensures { λ next. ⌜ Written (now (out .entry)) at (digits n) (now (out .exit)) next ⌝ }

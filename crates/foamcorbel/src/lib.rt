@@ -1,5 +1,7 @@
-// The calls of document 01 as C functions, which include/foamcorbel.h declares: any words, slots, keys and walks may come in. The result is the
-// refusal's number, 0 when accepted; values go to the words lent as `out`, which a refusal leaves as they were.
+// The calls of RULES 4.1 to 4.16 as C functions (RULES 9.18 to 9.20, 13.13), which
+// include/foamcorbel.h declares: any words, slots, keys and walks may come in (RULES 14.1). The
+// result is the refusal's number, 0 when accepted; values go to the words lent as `out`, which a
+// refusal leaves as they were.
 use answers::TruthAnswer;
 use arena::Entry;
 use passing::pass_done;

@@ -1,4 +1,4 @@
--- What each step of format leaves, as far as the steps after it need it.
+-- What each step of format leaves (RULES 4.32, 4.33), as far as the steps after it need it.
 use mathlib.Core.Path.{_≡_}
 use mathlib.Core.List.{List, [], _∷_}
 use Prim.Native.Nat.{ℕ, _+_, _-_, _*_, _≤_, _<_}

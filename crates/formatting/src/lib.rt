@@ -1,4 +1,4 @@
-// Document 01's format, on any words.
+// Format, RULES 4.1, 4.32 and 4.33, on any words.
 use answers::Refusal;
 use arena::HEAD_WORD;
 use arena::NODES_WORD;
@@ -36,7 +36,8 @@ fn write_header(ws: &mut [u32], n: u32, v: u32)
     ws[SPARE_WORD + 4] = 0;
 }
 
-// Every node goes to the front of the free list, the last first: they are listed in the order of their numbers.
+// RULES 4.33: every node goes to the front of the free list, the last first, so that they are
+// listed in the order of their numbers.
 fn free_nodes(ws: &mut [u32], n: u32)
     requires { ⌜ NodeInside (now ws) n ⌝ }
     requires { ⌜ head (now ws) ≡ 0 ⌝ }
@@ -61,7 +62,8 @@ fn empty_slots(ws: &mut [u32], n: u32, v: u32)
     }
 }
 
-// "accepts any old contents, records the N and V it is given, makes all nodes free and no slot held"
+// RULES 4.32: "Format accepts whatever the slice held. It records its N and V in words 0 and 1;
+// every node is then free, and no slot is held."
 pub fn format(ws: &mut [u32], n: u32, v: u32) -> DoneAnswer
     ensures { λ r. ⌜ Outcome (Call.format n v) (now (ws .entry)) (doneAnswer r) (now (ws .exit)) ⌝ }
 {

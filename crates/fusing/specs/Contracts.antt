@@ -1,4 +1,4 @@
--- What the fusing of two trees asks and promises, beside the steps of the plan.
+-- What the fusing of two trees (RULES 6.32) asks and promises, beside the steps of the plan.
 use mathlib.Core.Path.{_≡_}
 use mathlib.Core.List.{List}
 use Prim.Native.Nat.{ℕ, _+_, _*_, _≤_}

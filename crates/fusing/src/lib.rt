@@ -1,4 +1,4 @@
-// 000's `remove_fuse` on a read-only arena and a plan. A part of module 6 of document 01's port order.
+// 000's `remove_fuse` (RULES 6.32) on a read-only arena and a plan. A part of module 6 (RULES 6.7).
 ghost use Rattle.trees.specs.Remove.{fuse};
 ghost use Rattle.plan.specs.Held.{Room};
 ghost use Rattle.fusing.specs.Contracts.{joinRoom, fuseRoom, Twin, Joins, Ends, Fuses};

@@ -1,4 +1,4 @@
--- What the steps of insertion ask and promise, beside those of the plan.
+-- What the steps of insertion (RULES 6.24 to 6.26) ask and promise, beside those of the plan.
 use mathlib.Core.Path.{_≡_}
 use mathlib.Core.Bool.{Bool, not}
 use mathlib.Core.List.{List}

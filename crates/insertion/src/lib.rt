@@ -1,4 +1,4 @@
-// 000's `insert` on a read-only arena and a plan. Module 5 of document 01's port order.
+// 000's `insert` on a read-only arena and a plan. Module 5 (RULES 6.6).
 ghost use mathlib.Core.Bool.{not};
 ghost use Rattle.trees.specs.Insert.{settle as settleOf, ins as insOf, insert as insertOf};
 ghost use Rattle.arena.specs.Nodes.{entryOf};
@@ -21,7 +21,7 @@ pub struct Put {
     pub new: bool,
 }
 
-// "balance runs at each node on the way up" where the key is new.
+// RULES 6.25: "For a new key `balance` runs at each node of the path, on the way up."
 fn settle(ws: &[u32], plan: &mut [u32], x: Node, new: bool) -> u32
     requires { ⌜ Room (now ws) (now plan) balanceRoom ⌝ }
     requires { ⌜ Some (now ws) (now plan) (x .left) ⌝ }
@@ -79,7 +79,7 @@ fn ins(ws: &[u32], plan: &mut [u32], link: u32, e: Entry, h: u32) -> Put
     }
 }
 
-// `insert` on the tree at the root, whose height is h at most: "the root ends black".
+// `insert` on the tree at the root, whose height is h at most. RULES 6.26: "The root ends black".
 pub fn insert(ws: &[u32], plan: &mut [u32], root: u32, e: Entry, h: u32) -> Put
     requires { ⌜ Room (now ws) (now plan) (insertRoom h) ⌝ }
     requires { ⌜ Held (now ws) (now plan) root h ⌝ }

@@ -1,4 +1,5 @@
--- What the lookups ask of the words, and what they answer: the definitions of `trees`, at the tree that a link holds.
+-- What the lookups (RULES 6.4) ask of the words, and what they answer: the definitions of `trees`,
+-- RULES 6.16 and 6.17, at the tree that a link holds.
 use mathlib.Core.Path.{_≡_}
 use mathlib.Core.List.{List}
 use mathlib.Core.Option.{Option, none, some}
@@ -15,7 +16,8 @@ abbrev pub foundOf : Found → Option trees.Entry
 foundOf (At e) = some (entryOf e)
 foundOf Nothing = none
 
--- The link i holds a tree of height h at most, in an arena that has all its nodes.
+-- The link i holds a tree of height h at most, in an arena that has all its nodes. RULES 13.9: "the
+-- remaining height is what falls".
 pub record Rooted (ws : List ℕ) (i h : ℕ) : Type 0 where
   pub n : ℕ
   pub inside : nodeWords * n + headerWords ≤ length ws

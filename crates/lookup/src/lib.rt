@@ -1,4 +1,5 @@
-// Module 3 of document 01's port order: lookups over node numbers, the remaining height falling.
+// Module 3 (RULES 6.4, 13.9): lookups over node numbers, the remaining height falling. "`get`: a
+// loop; `first`, `last`: recursive descents".
 use arena::Entry;
 use arena::MAX_HEIGHT;
 use arena::Node;

@@ -1,4 +1,5 @@
--- What the writes of nodes ask of the words, and what they promise: the models of `words`.
+-- What the writes of nodes (RULES 6.2, 6.3) ask of the words, and what they promise: the models of
+-- `words`.
 use mathlib.Core.Path.{_≡_}
 use mathlib.Core.List.{List, _∷_}
 use Prim.Native.Nat.{ℕ, _+_, _≤_, _<_}
@@ -16,7 +17,7 @@ pub record Raisable (ws : List ℕ) (i : ℕ) : Type 0 where
   pub inside : NodeInside ws i
   pub room : 1 ≤ i → count ws i + 1 < 4294967296
 
--- There is a first free node, and the colour to be written is red or black.
+-- There is a first free node, and the colour to be written is red or black (RULES 2.16).
 pub record Makable (ws : List ℕ) (d : Node) : Type 0 where
   pub header : headerWords ≤ length ws
   pub inside : NodeInside ws (head ws)
@@ -35,7 +36,7 @@ pub record Made (r : ℕ) (ws ws' : List ℕ) (d : Node) : Type 0 where
   pub first : r ≡ head ws
   pub written : Written ws ws' d
 
--- The link i has been released, and r nodes were freed.
+-- RULES 6.3: the link i has been released, and r nodes were freed.
 pub record Releases (h : ℕ) (ws ws' : List ℕ) (i r : ℕ) : Type 0 where
   pub words-are : ws' ≡ releasing h ws i
   pub freed-is : r ≡ freed h ws i

@@ -1,4 +1,5 @@
-// What writes nodes: they are taken from the free list, counted and given back. Module 2 of document 01's port order, with `arena`.
+// What writes nodes: they are taken from the free list, counted and given back. Module 2
+// (RULES 6.2), with `arena`.
 ghost use mathlib.Core.Path.{_≡_};
 ghost use Rattle.words.specs.Model.{withCount, raising, freeing};
 ghost use Rattle.arena.specs.Nodes.{NodeInside};
@@ -73,8 +74,8 @@ pub fn make_node(ws: &mut [u32], d: Node) -> u32
     i
 }
 
-// One name less for the link i, at which stands a tree of height h at most. At its last name a node is freed, and its links are released. Answers how many
-// nodes were freed.
+// RULES 6.3: one name less for the link i, at which stands a tree of height h at most. At its last
+// name a node is freed, and its links are released. Answers how many nodes were freed.
 pub fn release(ws: &mut [u32], i: u32, h: u32) -> u32
     requires { ⌜ Holds (now ws) i h ⌝ }
     ensures { λ r. ⌜ Releases h (now (ws .entry)) (now (ws .exit)) i r ⌝ }

@@ -1,4 +1,5 @@
--- What a C function gives for the page's answer: a number as its result, and the values in the words lent for them.
+-- What a C function gives for the call's answer, RULES 9.18 and 9.19: a number as its result, and
+-- the values in the words lent for them.
 use mathlib.Core.Path.{_≡_}
 use mathlib.Core.Bool.{Bool, true, false}
 use mathlib.Core.List.{List}
@@ -8,7 +9,7 @@ use Rattle.trees.specs.Order.{Sign, less, same, more}
 use Rattle.calls.specs.Refusal.{number}
 use Rattle.calls.specs.Call.{Answer}
 
--- The result: the refusal's number, 0 when accepted.
+-- RULES 9.18: "0 when its call is accepted, and else the refusal's number".
 abbrev pub status : Answer → ℕ
 status (Answer.refused r) = number r
 status Answer.done = 0
@@ -19,18 +20,20 @@ status (Answer.entry e) = 0
 status (Answer.sign d) = 0
 status (Answer.truth b) = 0
 
--- −1, 0 or 1 as a word: −1 as two's complement has it, so that C reads the word as an int32_t.
+-- RULES 9.19: "Compare's −1 is 4,294,967,295", as two's complement has it, so that C reads the word
+-- as an int32_t.
 abbrev pub signWord : Sign → ℕ
 signWord less = 4294967295
 signWord same = 0
 signWord more = 1
 
--- Yes is 1, no is 0.
+-- RULES 9.19: "Yes is 1 and no is 0."
 abbrev pub truthWord : Bool → ℕ
 truthWord true = 1
 truthWord false = 0
 
--- The words lent for the values, afterwards. A refusal leaves them, and so does an answer that is only done.
+-- RULES 9.19: the words lent for the values, afterwards. RULES 9.18: a refusal leaves them, and so
+-- does an answer that is only done.
 abbrev pub written : Answer → List ℕ → List ℕ
 written (Answer.refused r) out = out
 written Answer.done out = out

@@ -1,4 +1,5 @@
--- A walk as nine lent words: slot; kind and key of the start; kind and key of the end; at the front and then at the back, whether a key was given, and which.
+-- RULES 9.20: "A walk is nine words: the slot; kind and key of the start; kind and key of the end;
+-- whether the front gave a key, and which; whether the back did, and which."
 use mathlib.Core.List.{List}
 use mathlib.Core.Option.{Option, none, some}
 use Prim.Native.Nat.{ℕ}
@@ -8,11 +9,12 @@ use Rattle.heights.specs.Choice.{if_then_else_}
 use Rattle.trees.specs.Range.{Bound, included, excluded, unbounded}
 use Rattle.calls.specs.Call.{Walk}
 
--- Kind 1 is included, 2 is excluded. Every other kind is none: 0, by which a caller writes it, and those beyond the known ones.
+-- RULES 9.20: "A kind of 1 is included, 2 is excluded, all others are none": 0, by which a caller
+-- writes none, and those beyond the known ones.
 abbrev pub boundIn : ℕ → ℕ → Bound
 boundIn kind key = if eqb kind 1 then included key else if eqb kind 2 then excluded key else unbounded
 
--- 0 is "not given", every other number is "given".
+-- RULES 9.20: "Whether a key was given: 0 is no, all others are yes".
 abbrev pub lastIn : ℕ → ℕ → Option ℕ
 lastIn given key = if eqb given 0 then none else some key
 

@@ -16,10 +16,10 @@ ghost use Rattle.answers.specs.Answers.{signOf, numberAnswer, valueAnswer, entr
 ghost use Rattle.versions.specs.Slots.{slotAnswer, doneAnswer};
 ghost use Rattle.passing.specs.Results.{signWord, truthWord, PassedOn};
 
-// The result of an accepted call.
+// RULES 9.18: the result of an accepted call.
 const ACCEPTED: u32 = 0;
 
-// -1 in two's complement.
+// RULES 9.19: -1 in two's complement.
 const MINUS_ONE: u32 = 4294967295;
 
 pub fn pass_done(a: DoneAnswer) -> u32
@@ -67,7 +67,7 @@ pub fn pass_value(a: ValueAnswer, out: &mut [u32; 1]) -> u32
     }
 }
 
-// The key, then the value.
+// RULES 9.19: the key, then the value.
 pub fn pass_entry(a: EntryAnswer, out: &mut [u32; 2]) -> u32
     ensures { λ r. ⌜ PassedOn (entryAnswer a) (now (out .entry)) r (now (out .exit)) ⌝ }
 {

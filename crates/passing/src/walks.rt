@@ -1,4 +1,4 @@
-// A walk from nine lent words, by the rule of specs/Walks.antt.
+// A walk from nine lent words: RULES 9.20.
 use ranges::Bound;
 use ranges::LastKey;
 use ranges::Range;

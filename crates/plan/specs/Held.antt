@@ -19,7 +19,8 @@ pub record PlanIs (ws plan : List ℕ) (link : ℕ) (c : Color) (e : Entry) : Ty
   pub color-is : planColor plan (spot ws link) ≡ code c
   pub entry-is : planEntry plan (spot ws link) ≡ e
 
--- A link holds a tree: 0 none, 1 to N a node of the arena, which the new version shares, and any above a node of the plan, which it makes.
+-- A link holds a tree: 0 none, 1 to N a node of the arena, which the new version shares
+-- (RULES 6.35), and any above a node of the plan, which it makes (RULES 6.34).
 pub data Holds (ws plan : List ℕ) : ℕ → Tree → Type 0 where
   none : {link : ℕ} → link ≡ 0 → Holds ws plan link leaf
   shared : {link : ℕ} {c : Color} {e : Entry} {l r : Tree} → NodeIs (nodes ws) ws link c e → Holds ws plan (left ws link) l →

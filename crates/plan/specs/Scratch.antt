@@ -1,4 +1,5 @@
--- The plan's words: a scratch lent for one call, to which nodes are only ever added. A word past the end reads as 0.
+-- The plan's words: a scratch lent for one call, to which nodes are only ever added. A word past
+-- the end reads as 0. No rule asks for a plan.
 use mathlib.Core.Path.{_≡_}
 use mathlib.Core.List.{List}
 use Prim.Native.Nat.{ℕ, _+_, _*_, _≤_}

@@ -16,7 +16,7 @@ pub record Grown (ws plan plan' : List ℕ) (k : ℕ) : Type 0 where
   pub grows : used plan' ≤ used plan + k
   pub same : length plan' ≡ length plan
 
--- The colour that is read where there is no node: neither red nor black.
+-- RULES 6.15: what is read of a missing child, "neither red nor black".
 abbrev pub noColor : ℕ
 noColor = 2
 
@@ -24,7 +24,8 @@ abbrev pub hue : Tree → ℕ
 hue leaf = noColor
 hue (node p c l e r) = code c
 
--- x has the colour, the entry and the sides of t; where t is no node it has the defaults of the plain definitions.
+-- x has the colour, the entry and the sides of t; where t is no node it has the defaults of the
+-- plain definitions (RULES 6.33).
 pub record Sees (ws plan : List ℕ) (x : Node) (t : Tree) : Type 0 where
   pub color-is : hue t ≡ x .color
   pub entry-is : en t ≡ entryOf (x .entry)
@@ -52,7 +53,7 @@ pub record Turns (ws plan plan' : List ℕ) (k link r : ℕ) (f : Tree → Tree)
   pub grown : Grown ws plan plan' k
   pub holds : {t : Tree} → Holds ws plan link t → Holds ws plan' r (f t)
 
--- The same for the plain `paint`, with its colour as a word.
+-- The same for the plain `paint` (RULES 6.15), with its colour as a word.
 pub record Paints (ws plan plan' : List ℕ) (link r c : ℕ) : Type 0 where
   pub grown : Grown ws plan plan' 1
   pub holds : (d : Color) {t : Tree} → c ≡ code d → Holds ws plan link t → Holds ws plan' r (paint d t)

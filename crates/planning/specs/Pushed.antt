@@ -1,4 +1,5 @@
--- The model of adding a node: where its words go, and the count one more.
+-- The model of adding a fresh node (RULES 6.34) to the plan: where its words go, and the count one
+-- more.
 use mathlib.Core.List.{List, [], _∷_}
 use Prim.Native.Nat.{ℕ, _+_, _*_}
 use lib.ListN.{set}

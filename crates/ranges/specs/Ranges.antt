@@ -1,4 +1,4 @@
--- The ranges of `trees`, from those that the functions take.
+-- The ranges of `trees` (RULES 7.1), from those that the functions take.
 use mathlib.Core.Option.{Option, none, some}
 use Prim.Native.Nat.{ℕ}
 use Rattle.trees.specs.Range as range

@@ -1,4 +1,4 @@
-// The descents of module 8 of document 01's port order: the steps of a walk over a range, over node numbers.
+// The descents of module 8 (RULES 6.9, 7.8): the steps of a walk over a range, over node numbers.
 use arena::MAX_HEIGHT;
 use arena::node_at;
 use lookup::Found;
@@ -10,14 +10,14 @@ ghost use Rattle.trees.specs.Lookup.{least as leastOf, greatest as greatestOf, 
 ghost use Rattle.lookup.specs.Finding.{Rooted, Finds};
 ghost use Rattle.ranges.specs.Ranges.{boundOf, lastOf, rangeOf};
 
-// An end of a range.
+// RULES 7.1: an end of a range.
 pub enum Bound {
     Included(u32),
     Excluded(u32),
     Unbounded,
 }
 
-// The last key that a walk gave at one of its ends, if any.
+// RULES 7.1: the last key that a walk gave at one of its ends, if any.
 pub enum LastKey {
     Given(u32),
     NotGiven,
@@ -51,7 +51,7 @@ fn to_end(b: Bound, key: u32) -> bool
     }
 }
 
-// A last key is excluded; none given bounds nothing.
+// RULES 7.3: a last key is excluded; none given bounds nothing.
 fn past_last(l: LastKey) -> Bound
     ensures { λ r. ⌜ boundOf r ≡ past (lastOf l) ⌝ }
 {

@@ -1,4 +1,5 @@
-// The calls that only read one version, on a sound arena: document 01's table. `red_black_tree_map` tests the arena first.
+// The calls that only read one version, on a sound arena: RULES 4.5 to 4.9, 4.15.
+// `red_black_tree_map` tests the arena first.
 use answers::Entered;
 use answers::EntryAnswer;
 use answers::NumberAnswer;
@@ -14,7 +15,7 @@ ghost use Rattle.calls.specs.Call.{Call};
 ghost use Rattle.calls.specs.Outcome.{Outcome};
 ghost use Rattle.answers.specs.Answers.{numberAnswer, valueAnswer, entryAnswer, truthAnswer};
 
-// (0028,1053) Rescale Slope.
+// RULES 2.2: (0028,1053) Rescale Slope.
 const RESCALE_SLOPE: u32 = 2625619;
 
 pub fn size(ws: &[u32], s: u32) -> NumberAnswer
@@ -72,7 +73,7 @@ pub fn last(ws: &[u32], s: u32) -> EntryAnswer
     }
 }
 
-// Yes exactly when the version holds (0028,1053).
+// RULES 8.4: yes exactly when the version holds (0028,1053).
 pub fn rescale_mark(ws: &[u32], s: u32) -> TruthAnswer
     requires { ⌜ Sound (now ws) ⌝ }
     ensures { λ r. ⌜ Outcome (Call.rescale-mark s) (now (ws .entry)) (truthAnswer r) (now (ws .entry)) ⌝ }

@@ -1,4 +1,5 @@
-// 000's `remove_balance_left` and `remove_balance_right` on a read-only arena and a plan. A part of module 6 of document 01's port order.
+// 000's `remove_balance_left` and `remove_balance_right` (RULES 6.30, 6.31) on a read-only arena
+// and a plan. A part of module 6 (RULES 6.7).
 ghost use Rattle.trees.specs.Tree.{lf, rt};
 ghost use Rattle.plan.specs.Held.{Some, Room};
 ghost use Rattle.plan.specs.Steps.{Steps};

@@ -1,4 +1,4 @@
--- What the steps of removal ask and promise, beside those of the plan.
+-- What the steps of removal (RULES 6.27, 6.28) ask and promise, beside those of the plan.
 use mathlib.Core.Path.{_≡_}
 use mathlib.Core.Bool.{true}
 use mathlib.Core.List.{List}
@@ -42,7 +42,8 @@ pub record Sides (ws plan : List ℕ) (x : Node) (h : ℕ) : Type 0 where
   pub left : Shaped ws plan (x .left) h blacks
   pub right : Shaped ws plan (x .right) h blacks
 
--- What `remove` does for a key that is there. One that is not leaves the tree as it is, and its caller plans nothing.
+-- RULES 6.28: what `remove` does for a key that is there. One that is not leaves the tree as it is
+-- (RULES 6.38), and its caller plans nothing.
 pub record Removes (ws plan plan' : List ℕ) (k link r key : ℕ) : Type 0 where
   pub grown : Grown ws plan plan' k
   pub holds : {t : Tree} → has key t ≡ true → Holds ws plan link t → Holds ws plan' r (remove key t)

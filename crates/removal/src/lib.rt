@@ -1,5 +1,5 @@
-// 000's `del` with its two sides, and `remove`, on a read-only arena and a plan. Module 6 of document 01's port order, whose other parts stand in
-// `turning`, `rebalancing` and `fusing`.
+// 000's `del` with its two sides, and `remove`, on a read-only arena and a plan. Module 6
+// (RULES 6.7, 13.12), whose other parts stand in `turning`, `rebalancing` and `fusing`.
 ghost use Prim.Native.Nat.{_+_};
 ghost use Rattle.trees.specs.Remove.{del as delOf};
 ghost use Rattle.plan.specs.Held.{Room};

@@ -1,10 +1,11 @@
--- What document 01's program writes, as bytes.
+-- What the program writes, as bytes: RULES 9.6 to 9.15.
 use Prim.Native.Nat.{ℕ}
 use mathlib.Core.List.{List, [], _∷_, _++_}
 use Rattle.decimal.specs.Decimal.{digits}
 use Rattle.replies.specs.declared.Reply.{Reply}
 
--- "the slot or value; `ok` for drop; `R`, a space and the number for a refusal; for list each `K V` on a line, then `end`; for any other line `?`"
+-- RULES 9.6 to 9.12, the last column. RULES 9.13: "`R`, one space and its number". RULES 9.14: `?`.
+-- RULES 9.15: "Each answer is a line of its own".
 abbrev pub reply : Reply → List ℕ
 reply (Reply.Number n) = digits n ++ 10 ∷ []
 reply Reply.Done = 111 ∷ 107 ∷ 10 ∷ []

@@ -1,4 +1,4 @@
-// The answers of document 01's program: each written as a line.
+// The answers of the program, RULES 9.6 to 9.15: each written as a line.
 use decimal::put_number;
 use decimal::put_text;
 ghost use mathlib.Core.List.{[], _∷_, _++_};

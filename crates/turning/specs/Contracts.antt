@@ -1,4 +1,5 @@
--- What the turns of a red sibling promise, beside the steps of the plan.
+-- What the turns of a red sibling, the third cases of RULES 6.30 and 6.31, promise beside the steps
+-- of the plan.
 use Prim.Native.Nat.{ℕ}
 use Rattle.trees.specs.Tree.{Tree, lf, rt, en}
 use Rattle.trees.specs.Remove.{turnLeft, turnRight}

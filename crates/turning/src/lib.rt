@@ -1,4 +1,5 @@
-// 000's `remove_balance`, and the third arms of its two sides, on a read-only arena and a plan. A part of module 6 of document 01's port order.
+// 000's `remove_balance`, and the third arms of its two sides, on a read-only arena and a plan. A
+// part of module 6 (RULES 6.7).
 ghost use Rattle.trees.specs.Remove.{removeBalance};
 ghost use Rattle.plan.specs.Held.{Some, Room};
 ghost use Rattle.plan.specs.Steps.{Looks, Steps};
@@ -13,7 +14,8 @@ use plan::look;
 use planning::paint;
 use planning::push;
 
-// At a node that its caller has made black: two red children are painted black, else `balance`.
+// RULES 6.29, at a node that its caller has made black: two red children are painted black, else
+// `balance`.
 pub fn remove_balance(ws: &[u32], plan: &mut [u32], x: Node) -> u32
     requires { ⌜ Room (now ws) (now plan) balanceRoom ⌝ }
     requires { ⌜ Some (now ws) (now plan) (x .left) ⌝ }
@@ -32,7 +34,7 @@ pub fn remove_balance(ws: &[u32], plan: &mut [u32], x: Node) -> u32
     balance(ws, plan, x)
 }
 
-// The third arm of `remove_balance_left`: r is the red right child of x, and its black left child rises.
+// RULES 6.30, the third case: r is the red right child of x, and its black left child rises.
 pub fn turn_left(ws: &[u32], plan: &mut [u32], x: Node, r: Node) -> u32
     requires { ⌜ Room (now ws) (now plan) sideRoom ⌝ }
     requires { ⌜ Looks (now ws) (now plan) (x .right) r ⌝ }
@@ -53,7 +55,7 @@ pub fn turn_left(ws: &[u32], plan: &mut [u32], x: Node, r: Node) -> u32
     push(ws, plan, top)
 }
 
-// The third arm of `remove_balance_right`: l is the red left child of x, and its black right child rises.
+// RULES 6.31, the third case: l is the red left child of x, and its black right child rises.
 pub fn turn_right(ws: &[u32], plan: &mut [u32], x: Node, l: Node) -> u32
     requires { ⌜ Room (now ws) (now plan) sideRoom ⌝ }
     requires { ⌜ Looks (now ws) (now plan) (x .left) l ⌝ }

@@ -1,4 +1,4 @@
--- The free number, which the calls take and give by value.
+-- The free number (RULES 3.10), which the calls take and give by value.
 use mathlib.Core.Path.{_≡_}
 use mathlib.Core.List.{List}
 use Prim.Native.Nat.{ℕ, _≤_}

@@ -1,4 +1,4 @@
--- What the writing calls test first, and the page's answers from theirs.
+-- What the writing calls test first, and the answers of RULES 4.17 from theirs (RULES 13.15).
 use mathlib.Core.Path.{_≡_}
 use mathlib.Core.List.{List}
 use Prim.Native.Nat.{ℕ, _<_}
@@ -25,11 +25,11 @@ abbrev pub doneAnswer : DoneAnswer → Answer
 doneAnswer DoneAnswer.Done = Answer.done
 doneAnswer (DoneAnswer.Refused r) = Answer.refused (refusalOf r)
 
--- "all V slots held"
+-- RULES 4.27: "each of the V slots is held".
 abbrev pub AllSlotsHeld : List ℕ → Type 0
 AllSlotsHeld ws = (s : ℕ) → s < slots ws → Held ws s
 
--- The lowest slot not held, or none is.
+-- RULES 4.21: the lowest slot not held; or every slot is held.
 abbrev pub LowestAt : List ℕ → FreeSlot → Type 0
 LowestAt ws (At q) = Lowest ws q
 LowestAt ws AllHeld = AllSlotsHeld ws
@@ -50,7 +50,7 @@ pub record Parents (ws : List ℕ) (p : Parent) : Type 0 where
   pub slot : ℕ
   pub of : ParentOf ws slot p
 
--- The refusals of these tests.
+-- The refusals of these tests: RULES 4.24, 4.27, in this order (RULES 4.18).
 abbrev pub Refuses : List ℕ → ℕ → Refusal → Type 0
 Refuses ws s BadShape = ⊥
 Refuses ws s Unsound = ⊥

@@ -1,4 +1,5 @@
-// The versions: new, hold and release, on a sound arena, and the tests of the calls that hand out a slot. Each takes the free number and gives it back.
+// The versions, RULES 4.34 to 4.36: new, hold and release, on a sound arena, and the tests of the
+// calls that hand out a slot. Each takes the free number and gives it back.
 use answers::Entered;
 use answers::Refusal;
 use answers::enter;
@@ -59,7 +60,7 @@ pub enum Opened {
     Refused(Refusal),
 }
 
-// "A call that hands out a slot gives the lowest one not held."
+// RULES 4.21: "A slot that is handed out is the lowest that is not held."
 fn lowest_slot(ws: &[u32]) -> FreeSlot
     requires { ⌜ Sound (now ws) ⌝ }
     ensures { λ r. ⌜ LowestIs (now (ws .entry)) r ⌝ }

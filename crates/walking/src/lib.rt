@@ -1,4 +1,5 @@
-// The steps of a walk, on a sound arena: document 01's table. `red_black_tree_map` tests the arena first.
+// The steps of a walk, on a sound arena: RULES 4.14 and 7. `red_black_tree_map` tests the arena
+// first.
 use answers::Entered;
 use answers::EntryAnswer;
 use answers::Refusal;
@@ -15,13 +16,13 @@ ghost use Rattle.calls.specs.Outcome.{Outcome};
 ghost use Rattle.answers.specs.Answers.{entryAnswer};
 ghost use Rattle.walking.specs.Walks.{walkOf, stepped};
 
-// What the caller keeps of a walk, by value.
+// RULES 7.1: what the caller keeps of a walk, by value.
 pub struct Walk {
     pub slot: u32,
     pub range: Range,
 }
 
-// Start above end, or equal and both excluded.
+// RULES 7.5: start above end, or equal and both excluded.
 fn bad_range(start: Bound, end: Bound) -> bool
     ensures { λ r. ⌜ r ≡ badRange (boundOf start) (boundOf end) ⌝ }
 {

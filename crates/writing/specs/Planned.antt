@@ -1,4 +1,4 @@
--- A planned tree, and what the arena is when it has been put there.
+-- A planned tree, and what the arena is when it has been put there (RULES 4.37).
 use mathlib.Core.Path.{_≡_}
 use mathlib.Core.Bool.{true}
 use mathlib.Core.List.{List, []}

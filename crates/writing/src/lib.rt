@@ -1,4 +1,5 @@
-// Insert and remove, on a sound arena: document 01's table. `red_black_tree_map` tests the arena first. Each takes the free number and gives it back.
+// Insert and remove, on a sound arena: RULES 4.10, 4.11, 4.37 and 4.38. `red_black_tree_map` tests
+// the arena first. Each takes the free number and gives it back.
 use answers::Refusal;
 use arena::Entry;
 use arena::MAX_HEIGHT;
@@ -30,7 +31,7 @@ const INSERT_PLAN_WORDS: usize = 341;
 
 const REMOVE_PLAN_WORDS: usize = 886;
 
-// "insert needs H(n) + 1 free nodes"
+// RULES 5.3: "An insert needs H(n) + 1 free nodes".
 fn insert_reserve(size: u32) -> u32
     requires { ⌜ size < 4294967295 ⌝ }
     ensures { λ r. ⌜ r ≡ insertReserve size ⌝ }
@@ -38,7 +39,7 @@ fn insert_reserve(size: u32) -> u32
     conservative_height(size) + 1
 }
 
-// "remove of a present key needs 6 × H(n) + 2"
+// RULES 5.4: "A remove needs 6 × H(n) + 2 free nodes where the version has the key."
 fn remove_reserve(size: u32) -> u32
     requires { ⌜ size < 4294967295 ⌝ }
     ensures { λ r. ⌜ r ≡ removeReserve size ⌝ }
@@ -59,7 +60,7 @@ fn commit_to(ws: &mut [u32], plan: &[u32], link: u32, q: u32, size: u32) -> u32
     taken
 }
 
-// One entry more where the key is new.
+// RULES 6.26: one entry more where the key is new.
 fn size_with(size: u32, new: bool) -> u32
     requires { ⌜ size < 4294967295 ⌝ }
     ensures { λ r. ⌜ r ≡ size + (if new then 1 else 0) ⌝ }
@@ -119,7 +120,8 @@ pub fn insert(ws: &mut [u32], s: u32, e: Entry, free: u32) -> Handed
     }
 }
 
-// A slot for the parent without the key: of an absent key the parent itself, which needs no free node.
+// A slot for the parent without the key: of an absent key the parent itself (RULES 6.38), which
+// needs no free node (RULES 5.5).
 pub fn remove(ws: &mut [u32], s: u32, key: u32, free: u32) -> Handed
     requires { ⌜ Sound (now ws) ⌝ }
     requires { ⌜ FreeIs (now ws) free ⌝ }
