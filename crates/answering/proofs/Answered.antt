@@ -7,7 +7,7 @@ use borrow.Author.Tests.{eq-eqb, ne-eqb}
 use Rattle.trees.specs.Range.{front}
 use Rattle.arena.specs.Nodes.{entryOf}
 use Rattle.arena.specs.declared.Entry.{Entry}
-use Rattle.calls.specs.Call.{Call, Answer}
+use Rattle.calls.specs.Call.{Walk, Call, Answer}
 use Rattle.calls.specs.Outcome.{Outcome}
 use Rattle.answers.specs.Answers.{refusalOf, refusalNumber, valueAnswer, entryAnswer}
 use Rattle.answers.specs.declared.Refusal.{Refusal}
@@ -77,5 +77,10 @@ module _ {ws ws' : List ℕ} {r : Reply} where
   pub get-replied : {c : Command} {a : Answer} {s k : ℕ} → c ≡ Command.Get s k → Outcome (Call.get s k) ws a ws' → RepliesTo a r → Replies (callOf c) ws r ws'
   get-replied e o w = replied o w (ap callOf (sym e))
 
-  pub list-replied : {c : Command} {s : ℕ} → c ≡ Command.List s → Replies (Call.step front (walkFrom s none)) ws r ws' → Replies (callOf c) ws r ws'
-  list-replied e w = subst (λ (d : Command). Replies (callOf d) ws r ws') (sym e) w
+  -- A line of a listing, and the first, which is the reply to the command.
+  pub line-replied : {w x : Walk} {a : Answer} → w ≡ x → Outcome (Call.step front w) ws a ws' → RepliesTo a r → Replies (Call.step front x) ws r ws'
+  line-replied z o q = replied o q (ap (Call.step front) z)
+
+  pub list-replied : {c : Command} {w : Walk} {a : Answer} {s : ℕ} → c ≡ Command.List s → w ≡ walkFrom s none → Outcome (Call.step front w) ws a ws' →
+      RepliesTo a r → Replies (callOf c) ws r ws'
+  list-replied e z o q = replied o q (ap (Call.step front) z ∙ ap callOf (sym e))

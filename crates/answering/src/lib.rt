@@ -19,11 +19,14 @@ use replies::Reply;
 use versions::DoneAnswer;
 use versions::SlotAnswer;
 use walking::Walk;
+ghost use mathlib.Core.Path.{_≡_};
 ghost use Rattle.trees.specs.Range.{front as atFront};
+ghost use Rattle.words.specs.Sound.{Sound};
 ghost use Rattle.calls.specs.Call.{Call, Answer};
 ghost use Rattle.arena.specs.Nodes.{entryOf};
 ghost use Rattle.ranges.specs.Ranges.{lastOf};
 ghost use Rattle.answers.specs.Answers.{refusalOf, valueAnswer, entryAnswer};
+ghost use Rattle.walking.specs.Walks.{walkOf};
 ghost use Rattle.versions.specs.Slots.{slotAnswer, doneAnswer};
 ghost use Rattle.answering.specs.Answering.{walkFrom, callOf, RepliesTo, Replies};
 
@@ -83,9 +86,9 @@ fn entry_reply(a: EntryAnswer) -> Reply
     }
 }
 
-// The next line of a listing that has come so far.
-pub fn listed(ws: &[u32], slot: u32, front: LastKey) -> Reply
-    ensures { λ r. ⌜ Replies (Call.step atFront (walkFrom slot (lastOf front))) (now (ws .entry)) r (now (ws .entry)) ⌝ }
+// The walk of a listing that has come so far.
+fn walk_from(slot: u32, front: LastKey) -> Walk
+    ensures { λ w. ⌜ walkOf w ≡ walkFrom slot (lastOf front) ⌝ }
 {
     let range = Range {
         start: Bound::Unbounded,
@@ -93,7 +96,16 @@ pub fn listed(ws: &[u32], slot: u32, front: LastKey) -> Reply
         front,
         back: LastKey::NotGiven,
     };
-    entry_reply(step_front(ws, Walk { slot, range }))
+    Walk { slot, range }
+}
+
+// The next line of a listing that has come so far. It makes no test: that of the first line still
+// holds, since a listing writes no word of the arena.
+pub fn listed(ws: &[u32], slot: u32, front: LastKey) -> Reply
+    requires { ⌜ Sound (now ws) ⌝ }
+    ensures { λ r. ⌜ Replies (Call.step atFront (walkFrom slot (lastOf front))) (now (ws .entry)) r (now (ws .entry)) ⌝ }
+{
+    entry_reply(walking::step_front(ws, walk_from(slot, front)))
 }
 
 // Makes the command's call. A listing's first line is the answer to its first step.
@@ -107,6 +119,6 @@ pub fn answer(ws: &mut [u32], c: Command) -> Reply
         Command::Cut(s, key) => slot_reply(remove(ws, s, key)),
         Command::Drop(s) => done_reply(release(ws, s)),
         Command::Get(s, key) => value_reply(get(ws, s, key)),
-        Command::List(s) => listed(ws, s, LastKey::NotGiven),
+        Command::List(s) => entry_reply(step_front(ws, walk_from(s, LastKey::NotGiven))),
     }
 }

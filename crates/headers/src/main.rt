@@ -18,7 +18,7 @@ ghost use mathlib.Core.Path.{_≡_};
 ghost use Prim.Native.Nat.{_+_, _≤_};
 ghost use lib.ListN.{length};
 ghost use Rattle.replies.specs.Text.{longest};
-ghost use Rattle.answering.specs.Answering.{Small};
+ghost use Rattle.answering.specs.Answering.{callOf, Replies};
 ghost use Rattle.headers.specs.Places.{Waits, Flushed, Ready};
 
 // The words of the largest arena.
@@ -83,7 +83,7 @@ fn put(out: &mut [u8], p: Place, r: Reply) -> Place
 // The lines of a listing after the first, up to its end.
 fn list_rest(ws: &[u32], out: &mut [u8], p: Place, slot: u32, first: Reply) -> Place
     requires { ⌜ Waits (now out) p ⌝ }
-    requires { ⌜ Small first ⌝ }
+    requires { ⌜ Replies (callOf (Command.List slot)) (now ws) first (now ws) ⌝ }
     ensures { λ r. ⌜ Waits (now (out .exit)) r ⌝ }
 {
     let mut next = p;

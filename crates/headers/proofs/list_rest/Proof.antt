@@ -1,11 +1,13 @@
 use borrow.Author.Needs.{needs}
+use mathlib.Core.Path.{refl}
+use mathlib.Core.Option.{none}
 use native.Mathlib.Omega.{arith}
-use Rattle.headers.proofs.Listing.{keysLeft, keys-fall, Giving}
+use Rattle.headers.proofs.Listing.{keysLeft, keys-fall, entry-sound, Giving}
 use Rattle.headers.proofs.list_rest.Statement.{statement}
 use Rattle.headers.proofs.list_rest.Tie as tie
 
 abbrev Inv-loop : tie.InvT-loop
-Inv-loop ws out₀ slot next₀ reply₀ out next reply = Giving out₀ out next reply
+Inv-loop ws out₀ slot next₀ reply₀ out next reply = Giving ws slot out₀ out next reply
 
 abbrev μ-loop : tie.MeasureT-loop
 μ-loop ws out₀ slot next₀ reply₀ out next reply = keysLeft reply
@@ -16,11 +18,11 @@ list-rest-spec =
     (tie.spec
     Inv-loop
     μ-loop
+    (λ c. record { waits = search needs; last = none; line = search needs; same = refl })
     (λ c. search needs)
     (λ c. search needs)
     (λ c. search needs)
-    (λ c. search needs)
-    (λ c κs. search needs)
+    (λ c κs. search entry-sound)
     (λ c κs. search needs)
     (λ c. search keys-fall)
-    (λ c. record { waits = search needs; small = c .before .before .before .before .listed .ensures .replies .small; same = omega arith }))
+    (λ c. record { waits = search needs; last = _; line = c .before .before .before .before .listed .ensures; same = omega arith }))
