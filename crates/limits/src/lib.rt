@@ -4,7 +4,7 @@ ghost use Prim.Native.Nat.{_≤_};
 ghost use Rattle.words.specs.Layout.{maxNodes, maxSlots, arenaWords};
 ghost use Rattle.words.specs.Sound.{Limits};
 ghost use Rattle.soundness_laws.specs.Answer.{Decides};
-ghost use Rattle.soundness_laws.specs.Survey.{Within};
+ghost use Rattle.soundness_laws.specs.Within.{Within};
 use arena::HEADER_WORDS;
 use arena::MAX_NODES;
 use arena::MAX_SLOTS;

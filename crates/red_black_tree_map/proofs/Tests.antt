@@ -13,8 +13,8 @@ use Rattle.calls.specs.Table.{tests}
 use Rattle.calls.specs.Outcome.{Outcome}
 use Rattle.calls.proofs.Passing.{unsound-outcome}
 use Rattle.calls.proofs.ReadingOutcomes.{free-nodes-outcome, sound-outcome, not-sound-outcome}
-use Rattle.books.specs.declared.Tested.{Tested}
-use Rattle.books.specs.declared.Tested.the-variants.{Sound, Unsound}
+use Rattle.soundness.specs.declared.Tested.{Tested}
+use Rattle.soundness.specs.declared.Tested.the-variants.{Sound, Unsound}
 use Rattle.soundness.specs.Verdict.{Verdict}
 use Rattle.versions.specs.Free.{FreeIs}
 

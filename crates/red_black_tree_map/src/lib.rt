@@ -6,7 +6,7 @@ use answers::SignAnswer;
 use answers::TruthAnswer;
 use answers::ValueAnswer;
 use arena::Entry;
-use books::Tested;
+use soundness::Tested;
 use soundness::test;
 use versions::DoneAnswer;
 use versions::SlotAnswer;

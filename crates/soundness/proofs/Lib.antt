@@ -1,1 +1,2 @@
+pub mod NodeWords
 pub mod Verdicts

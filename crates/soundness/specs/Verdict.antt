@@ -1,25 +1,19 @@
 -- What the test answers: "The soundness test answers yes exactly when the arena is sound, otherwise no, and writes nothing."
-use mathlib.Core.Path.{_≡_}
 use mathlib.Core.List.{List}
-use Prim.Native.Nat.{ℕ, _<_}
-use lib.ListN.{length}
-use Rattle.words.specs.Layout.{nodes}
-use Rattle.words.specs.Sound.{freeNumber}
+use Prim.Native.Nat.{ℕ}
 use Rattle.words.specs.Sound as sound
-use Rattle.soundness_laws.specs.Memo.{Roomy, Blank}
-use Rattle.soundness_laws.specs.Survey.{Within}
-use Rattle.books.specs.declared.Tested.{Tested}
-use Rattle.books.specs.declared.Tested.the-variants.{Sound, Unsound}
+use Rattle.soundness_laws.specs.Queue.{Fresh}
+use Rattle.soundness_laws.specs.Packed.{Room}
+use Rattle.soundness_laws.specs.Whole.{SoundWith}
+use Rattle.soundness.specs.declared.Tested.{Tested}
+use Rattle.soundness.specs.declared.Tested.the-variants.{Sound, Unsound}
 
 -- Sound, with the free number; or not sound.
 abbrev pub Verdict : List ℕ → Tested → Type 0
-Verdict ws (Sound f) = (S : sound.Sound ws) × (freeNumber S ≡ f)
+Verdict ws (Sound f) = SoundWith ws f
 Verdict ws Unsound = sound.Sound ws → ⊥
 
--- An arena within its limits, and scratch for it: all 0, with room for each link.
-pub record Scratch (ws memo names : List ℕ) : Type 0 where
-  pub within : Within ws
-  pub memo-room : Roomy memo (nodes ws)
-  pub memo-blank : Blank memo
-  pub names-room : nodes ws < length names
-  pub names-blank : Blank names
+-- An arena within its limits, and scratch for each of its links.
+pub record Scratch (ws memo ends queue : List ℕ) : Type 0 where
+  pub fresh : Fresh ws memo queue
+  pub room : Room ws memo ends

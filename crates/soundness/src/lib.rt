@@ -1,39 +1,111 @@
 // The soundness test of document 01: yes exactly when the arena is sound, and then how many nodes are free. It writes nothing.
+pub mod packed;
+pub mod settling;
+
+ghost use Prim.Native.Nat.{_<_};
+ghost use Rattle.words.specs.Layout.{nodes};
 ghost use Rattle.words.specs.Sound.{Sound};
 ghost use Rattle.soundness_laws.specs.Answer.{Decides};
+ghost use Rattle.soundness_laws.specs.Within.{Within};
 ghost use Rattle.soundness.specs.Verdict.{Verdict, Scratch};
-use arena::MAX_NODES;
-use books::Tested;
-use books::books;
+use crate::settling::trees_right;
+use arena::nodes_of;
 use limits::within_limits;
-use summaries::memo::SUMMARY_WORDS;
-use survey::survey;
+use reaching::STOPPED;
+use reaching::live_nodes;
 
-const LINKS: usize = MAX_NODES as usize + 1;
+// The links that each tier of scratch has room for: none, and the nodes of an arena.
+const SMALL: usize = 64;
 
-const MEMO_WORDS: usize = SUMMARY_WORDS * LINKS;
+const MIDDLE: usize = 256;
 
-// Tests an arena within its limits, on scratch that is all 0 and large enough.
-fn test_on(ws: &[u32], memo: &mut [u32], names: &mut [u32]) -> Tested
-    requires { ⌜ Scratch (now ws) (now memo) (now names) ⌝ }
-    ensures { λ r. ⌜ Verdict (now (ws .entry)) r ⌝ }
-{
-    if !survey(ws, memo) {
-        return Tested::Unsound;
-    }
-    books(ws, memo, names)
+const LARGE: usize = 2048;
+
+// What the test answers: sound, with the number of free nodes; or not.
+pub enum Tested {
+    Sound(u32),
+    Unsound,
 }
 
-// Whether the arena is sound, and then the free number. The scratch is chosen here and nowhere else.
+// Tests an arena within its limits, on scratch that is large enough. The memo is all 0 at first: it has the names met, then the summaries.
+fn test_on(ws: &[u32], memo: &mut [u32], ends: &mut [u32], queue: &mut [u32]) -> Tested
+    requires { ⌜ Scratch (now ws) (now memo) (now ends) (now queue) ⌝ }
+    ensures { λ r. ⌜ Verdict (now (ws .entry)) r ⌝ }
+{
+    let live = live_nodes(ws, memo, queue);
+    if live == STOPPED {
+        return Tested::Unsound;
+    }
+    if !trees_right(ws, queue, live, memo, ends) {
+        return Tested::Unsound;
+    }
+    let free = nodes_of(ws) - live;
+    Tested::Sound(free)
+}
+
+// Tests an arena of fewer than SMALL nodes.
+fn test_small(ws: &[u32]) -> Tested
+    requires { ⌜ Within (now ws) × (nodes (now ws) < 64) ⌝ }
+    ensures { λ r. ⌜ Verdict (now (ws .entry)) r ⌝ }
+{
+    let mut memo = [0u32; SMALL];
+    let mut ends = [0u32; 2 * SMALL];
+    let mut queue = [0u32; SMALL];
+    test_on(ws, &mut memo, &mut ends, &mut queue)
+}
+
+// Tests an arena of fewer than MIDDLE nodes.
+fn test_middle(ws: &[u32]) -> Tested
+    requires { ⌜ Within (now ws) × (nodes (now ws) < 256) ⌝ }
+    ensures { λ r. ⌜ Verdict (now (ws .entry)) r ⌝ }
+{
+    let mut memo = [0u32; MIDDLE];
+    let mut ends = [0u32; 2 * MIDDLE];
+    let mut queue = [0u32; MIDDLE];
+    test_on(ws, &mut memo, &mut ends, &mut queue)
+}
+
+// Tests an arena of fewer than LARGE nodes.
+fn test_large(ws: &[u32]) -> Tested
+    requires { ⌜ Within (now ws) × (nodes (now ws) < 2048) ⌝ }
+    ensures { λ r. ⌜ Verdict (now (ws .entry)) r ⌝ }
+{
+    let mut memo = [0u32; LARGE];
+    let mut ends = [0u32; 2 * LARGE];
+    let mut queue = [0u32; LARGE];
+    test_on(ws, &mut memo, &mut ends, &mut queue)
+}
+
+// Tests an arena on the least scratch that is large enough, from this tier on. Into a function that calls
+// itself the compiler inlines no large frame, so a small arena never pays for a large one's scratch.
+fn test_from(ws: &[u32], tier: u32) -> Tested
+    requires { ⌜ Within (now ws) ⌝ }
+    ensures { λ r. ⌜ Verdict (now (ws .entry)) r ⌝ }
+{
+    let n = nodes_of(ws) as usize;
+    if tier == 0 {
+        if n < SMALL {
+            return test_small(ws);
+        }
+        return test_from(ws, 1);
+    }
+    if tier == 1 {
+        if n < MIDDLE {
+            return test_middle(ws);
+        }
+        return test_from(ws, 2);
+    }
+    test_large(ws)
+}
+
+// Whether the arena is sound, and then the free number.
 pub fn test(ws: &[u32]) -> Tested
     ensures { λ r. ⌜ Verdict (now (ws .entry)) r ⌝ }
 {
     if !within_limits(ws) {
         return Tested::Unsound;
     }
-    let mut memo = [0u32; MEMO_WORDS];
-    let mut names = [0u32; LINKS];
-    test_on(ws, &mut memo, &mut names)
+    test_from(ws, 0)
 }
 
 // Whether the arena is sound.

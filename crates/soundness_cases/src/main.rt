@@ -9,7 +9,7 @@ use self::arenas::FULL;
 use self::arenas::SHARED;
 use self::broken::CHANGED;
 use self::broken::CHANGES;
-use books::Tested;
+use soundness::Tested;
 use soundness::test;
 ghost use Prim.Native.Nat.{_<_, _≤_};
 ghost use lib.ListN.{length};

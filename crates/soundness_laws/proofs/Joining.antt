@@ -4,7 +4,7 @@ use mathlib.Core.Bool.{Bool, true, false}
 use Prim.Native.Nat.{ℕ, suc, _+_, _≤_}
 use native.Mathlib.Omega.{arith}
 use native.Mathlib.Decide.{decLe}
-use Rattle.trees.specs.Tree.{Entry, Color, red, black, Place, Tree, node, listing, size, isRed}
+use Rattle.trees.specs.Tree.{Entry, Color, red, black, Place, Tree, node, listing, isRed}
 use Rattle.trees.specs.Shape.{Rb, rb-leaf, rb-red, rb-black}
 use Rattle.trees.proofs.Listings.{Split, split}
 use Rattle.trees.proofs.Lookups.{size-listing}
@@ -30,12 +30,6 @@ shade-node : (c : Color) (p : Place) (l : Tree) (e : Entry) (r : Tree) → shade
 unfolding shadeOf
 shade-node red p l e r = refl
 shade-node black p l e r = refl
-
--- The black nodes on a way down are entries.
-pub blacks-size : {b : ℕ} {t : Tree} → Rb b t → b ≤ size t
-blacks-size rb-leaf = omega arith
-blacks-size (rb-red h i a b) = omega (arith, blacks-size a)
-blacks-size (rb-black a b) = omega (arith, blacks-size a)
 
 -- Every tree has one black height at most.
 rb-same : {a b : ℕ} {t : Tree} → Rb a t → Rb b t → a ≡ b

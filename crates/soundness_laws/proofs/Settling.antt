@@ -1,143 +1,144 @@
--- Settling a node both children of which are noted: its tree is good exactly when the two summaries fit, and then it is noted.
-use mathlib.Core.Path.{_≡_, refl, ap, sym, _∙_}
+-- From the end of the queue, children come before their parents.
+use mathlib.Core.Path.{_≡_, refl, sym, _∙_}
 use mathlib.Core.Bool.{Bool, true, false, not}
 use mathlib.Core.List.{List}
-use Prim.Native.Nat.{ℕ, zero, suc, _≤_}
+use Prim.Native.Nat.{ℕ, suc, _-_, _≤_, _<_}
 use native.Mathlib.Omega.{arith}
-use native.Mathlib.Decide.{ℕ-discrete}
-use Rattle.trees.specs.Tree.{Entry, Color, red, black, kept, Tree, leaf, node}
-use Rattle.words.specs.Layout.{nodes, entry, left, right, color, code}
-use Rattle.words.specs.Sound.{Reached, from-slot, from-left, from-right}
-use Rattle.words.proofs.Holding.{reads-same}
-use Rattle.words.proofs.Bounds.{size-nodes}
-use Rattle.soundness_laws.specs.Answer.{Decides}
-use Rattle.soundness_laws.specs.Summary.{Brief, Good, Tells, Fits, Joined, Small, Joinable}
-use Rattle.soundness_laws.specs.Memo.{briefAt, noting, Roomy}
-use Rattle.soundness_laws.specs.Survey.{Holds, Noted, Survey, Grown, Settle, Settled}
+use native.Mathlib.Decide.{ℕ-discrete, decLe}
+use lib.ListN.{length, take, getD}
+use Rattle.trees.specs.Tree.{Tree, leaf, node}
+use Rattle.trees.specs.Shape.{rb-leaf, Fine}
+use Rattle.words.specs.Layout.{nodes, left, right, slotRoot}
+use Rattle.words.specs.Counting.{occ}
+use Rattle.words.specs.Reads.{Reads, Held}
+use Rattle.words.specs.Sound.{Reached, from-slot, from-left, from-right, Trees, Sound}
+use Rattle.words.proofs.Counts.{same-ne}
+use Rattle.soundness_laws.specs.Answer.{Answers}
+use Rattle.soundness_laws.specs.Summary.{Brief, firstKey, lastKey, shadeOf, emptyBrief, Good, Tells}
 use Rattle.soundness_laws.proofs.Saying.{say-yes, say-no, heard-yes, heard-no}
-use Rattle.soundness_laws.proofs.Joining.{blacks-size, good-fits, joined-tells}
-use Rattle.soundness_laws.proofs.Noting.{noting-length, noting-here, noting-other}
+use Rattle.soundness_laws.proofs.Joining.{good-left, good-right}
+use Rattle.soundness_laws.specs.Whole.{Whole}
+use Rattle.soundness_laws.specs.Packed.{briefs}
+use Rattle.soundness_laws.specs.Known.{Known, Noted, Settle, Settled, Barren, Settling, AllKnown}
+use Rattle.soundness_laws.proofs.Arriving.{occ-next, occ-at}
 
-pub grown-none : (ws memo : List ℕ) → Survey ws memo → Grown ws memo memo
-grown-none ws memo q = record { survey = q; grows = λ j p. p }
-
-pub grown-more : (ws a b c : List ℕ) → Grown ws a b → Grown ws b c → Grown ws a c
-grown-more ws a b c x y = record { survey = y .survey; grows = λ j p. y .grows j (x .grows j p) }
-
-pub reached-low : (ws : List ℕ) {i : ℕ} → Reached ws i → 1 ≤ i
+reached-low : (ws : List ℕ) {i : ℕ} → Reached ws i → 1 ≤ i
 reached-low ws (from-slot s h p) = p
 reached-low ws (from-left i r p) = p
 reached-low ws (from-right i r p) = p
 
--- What is noted is small.
-pub noted-small : (ws memo : List ℕ) (x : ℕ) → Survey ws memo → Noted ws memo x → Small (briefAt memo x)
-noted-small ws memo x q p =
-    let K = q .known x p in
-    let s = size-nodes (nodes ws) ws x (K .0) (K .1) (K .2 .good .ordered) in
+trees-fine : (ws : List ℕ) (T : Trees ws) (s : ℕ) (h : Held ws s) → Fine (T .tree s h)
+trees-fine ws T s h =
+    record { ordered = T .keys s h; root = T .roots s h; blacks = T .shapes s h .0; shape = T .shapes s h .1 }
+
+-- In a sound arena a node that is reached has a good tree.
+module _ (ws : List ℕ) (S : Sound ws) where
+  abbrev GoodTree : ℕ → Type 0
+  GoodTree i = (t : Tree) × Reads (nodes ws) ws i t × Good t
+
+  good-child-left : (i : ℕ) → 1 ≤ i → GoodTree i → GoodTree (left ws i)
+  good-child-left i p (leaf, r, g) = absurd (omega arith)
+  good-child-left i p (node q c l e r', r, g) = (l, r .2, good-left q c l e r' g)
+
+  good-child-right : (i : ℕ) → 1 ≤ i → GoodTree i → GoodTree (right ws i)
+  good-child-right i p (leaf, r, g) = absurd (omega arith)
+  good-child-right i p (node q c l e r', r, g) = (r', r .3, good-right q c l e r' g)
+
+  reached-good : {i : ℕ} → Reached ws i → GoodTree i
+  reached-good (from-slot s h p) =
+      let a = trees-fine ws (S .trees) s h in
+      (S .trees .tree s h, S .trees .links s h, record { ordered = a .ordered; blacks = a .blacks; shape = a .shape })
+  reached-good (from-left i r p) = good-child-left i (reached-low ws r) (reached-good r)
+  reached-good (from-right i r p) = good-child-right i (reached-low ws r) (reached-good r)
+
+empty-tells : Tells emptyBrief leaf
+unfolding firstKey lastKey shadeOf
+empty-tells =
     record {
-      blacks-low = omega (arith, K .2 .blacks-is, blacks-size (K .2 .good .shape), q .within .n-high);
-      size-low = omega (arith, K .2 .size-is, q .within .n-high);
+      good = record { ordered = tt; blacks = 0; shape = rb-leaf };
+      blacks-is = refl;
+      size-is = refl;
+      least-is = refl;
+      greatest-is = refl;
+      color-is = refl;
     }
 
-pub settle-room : (ws memo : List ℕ) (i : ℕ) → Settle ws memo i → Roomy memo i
-settle-room ws memo i q = omega (arith, q .survey .room, q .high)
-
-color-of : (x : ℕ) → x ≤ 1 → (c : Color) × (code c ≡ x)
-color-of zero p = (red, refl)
-color-of (suc zero) p = (black, refl)
-color-of (suc (suc x)) p = absurd (omega arith)
-
--- c, k, x, y: the colour, the key and the links of node i, as they were read; a, b: the summaries of the two links.
-module _ (ws memo : List ℕ) (i : ℕ) (q : Settle ws memo i) (c k x y : ℕ) (cis : c ≡ color ws i) (kis : k ≡ entry ws i .key)
-    (xis : x ≡ left ws i) (yis : y ≡ right ws i) (a b : Brief) (ea : a ≡ briefAt memo x) (eb : b ≡ briefAt memo y) where
-  left-known : (t : Tree) × Holds ws (left ws i) t × Tells a t
-  left-known = rw (ea, xis) (q .survey .known (left ws i) (q .left))
-
-  right-known : (t : Tree) × Holds ws (right ws i) t × Tells b t
-  right-known = rw (eb, yis) (q .survey .known (right ws i) (q .right))
-
-  no-tree : (Fits c k a b → ⊥) → (t : Tree) → Holds ws i t → Good t → ⊥
-  no-tree f leaf h g = let l = reached-low ws (q .reached) in omega arith
-  no-tree f (node p d l e r) h g =
-      let L = left-known in
-      let R = right-known in
-      let x : Tells a l = rw (reads-same (nodes ws) ws (left ws i) l (L .0) (h .2) (L .1)) (L .2) in
-      let y : Tells b r = rw (reads-same (nodes ws) ws (right ws i) r (R .0) (h .3) (R .1)) (R .2) in
-      let ed : c ≡ code d = cis ∙ h .1 .color-is in
-      let ek : k ≡ e .key = kis ∙ ap (λ (z : Entry). z .key) (h .1 .entry-is) in
-      f (rw (ed, ek) (good-fits d e a b l r x y p g))
-
-  pub settle-no : (r : Bool) → Decides r (Fits c k a b) → not r ≡ true → Settled ws memo memo i false
-  settle-no r d e = record { grown = grown-none ws memo (q .survey); answer = say-no (no-tree (heard-no r d e)) }
-
-  pub settle-join : (r : Bool) → Decides r (Fits c k a b) → not r ≡ false → Joinable c a b
-  settle-join r d e =
+module _ (ws queue : List ℕ) (tail : ℕ) (W : Whole ws queue tail) where
+  -- The empty tree is noted first.
+  pub settling-start : (B B' : ℕ → Brief) → Noted B B' 0 emptyBrief → Settling ws queue tail tail B'
+  settling-start B B' n =
       record {
-        known = heard-yes r d e .colors .known;
-        left = rw (ea, xis) (noted-small ws memo (left ws i) (q .survey) (q .left));
-        right = rw (eb, yis) (noted-small ws memo (right ws i) (q .survey) (q .right));
+        high = omega arith;
+        none = record { tree = leaf; holds = refl; tells = rw (n .here) empty-tells };
+        known = λ x o n. absurd (omega arith);
       }
 
-  whole : (s : Brief) → Fits c k a b → Joined c k a b s → (t : Tree) × Holds ws i t × Tells s t
-  whole s f j =
-      let d = color-of c (f .colors .known) in
-      let L = left-known in
-      let R = right-known in
-      let f' : Fits (code (d .0)) (entry ws i .key) a b = rw (d .1, ← kis) f in
-      let j' : Joined (code (d .0)) (entry ws i .key) a b s = rw (d .1, ← kis) j in (
-        node (kept i) (d .0) (L .0) (entry ws i) (R .0),
-        (refl, record { low = reached-low ws (q .reached); high = q .high; color-is = sym cis ∙ sym (d .1); entry-is = refl }, L .1, R .1),
-        joined-tells (d .0) (entry ws i) a b (L .0) (R .0) (L .2) (R .2) (kept i) s f' j',
-      )
-
-  module _ (s : Brief) (f : Fits c k a b) (j : Joined c k a b s) where
-    abbrev memo' : List ℕ
-    memo' = noting memo i s
-
-    here : briefAt memo' i ≡ s
-    here = noting-here memo i s (omega (arith, q .survey .room, q .high))
-
-    noted-here : Noted ws memo' i
-    noted-here = record { high = q .high; seen = rw here (omega (arith, whole s f j .2 .blacks-is)) }
-
-    noted-more : (x : ℕ) → Noted ws memo x → Noted ws memo' x
-    noted-more x p = go (ℕ-discrete x i)
+  module _ (k : ℕ) (B : ℕ → Brief) (T : Settling ws queue tail k B) where
+    pub settling-end : k ≤ 0 → Answers true (AllKnown ws B) (Sound ws → ⊥)
+    unfolding occ
+    settling-end l =
+        let z : k ≡ 0 = omega arith in
+        let a : (x : ℕ) → 1 ≤ occ x (take tail queue) → Known ws B x = λ x o. T .known x o (rw z refl) in
+        say-yes (record {
+          within = W .within;
+          live = λ x l. a x (omega (arith, W .live x l));
+          roots = λ s h. go (slotRoot (nodes ws) ws s) (decLe 1 (slotRoot (nodes ws) ws s)) (λ p. a (slotRoot (nodes ws) ws s) (W .roots s h p));
+        })
       where
-        go : Dec (x ≡ i) → Noted ws memo' x
-        go (yes e) = rw e noted-here
-        go (no d) = record { high = p .high; seen = rw (noting-other memo i s x d) (p .seen) }
+        go : (x : ℕ) → Dec (1 ≤ x) → (1 ≤ x → Known ws B x) → Known ws B x
+        go x (yes p) f = f p
+        go x (no p) f = let z : x ≡ 0 = omega arith in rw z (T .none)
 
-    noted-less : (x : ℕ) → (x ≡ i → ⊥) → Noted ws memo' x → Noted ws memo x
-    noted-less x d p = record { high = p .high; seen = rw (noting-other memo i s x d) at (p .seen) }
+    -- j is the place before k, and i the node there.
+    module _ (l : 0 < k) (j : ℕ) (ej : j ≡ k - 1) where
+      pub settling-place : j < length queue
+      settling-place = omega (arith, T .high, W .short, W .space)
 
-    known-more : (x : ℕ) → Noted ws memo' x → Dec (x ≡ i) → (t : Tree) × Holds ws x t × Tells (briefAt memo' x) t
-    known-more x p (yes e) = rw (e, here) (whole s f j)
-    known-more x p (no d) = rw (noting-other memo i s x d) (q .survey .known x (noted-less x d p))
+      module _ (i : ℕ) (ei : i ≡ getD queue j 0) where
+        here : 1 ≤ occ i (take tail queue)
+        here = rw ei (occ-at j tail queue (omega (arith, T .high)) (omega (arith, W .short, W .space)))
 
-    closed-more : (x : ℕ) → 1 ≤ x → Noted ws memo' x → Dec (x ≡ i) → Noted ws memo' (left ws x) × Noted ws memo' (right ws x)
-    closed-more x l p (yes e) = rw e (noted-more (left ws i) (q .left), noted-more (right ws i) (q .right))
-    closed-more x l p (no d) =
-        let K = q .survey .closed x l (noted-less x d p) in
-        (noted-more (left ws x) (K .0), noted-more (right ws x) (K .1))
+        -- A child is none, or stands after the node, and is known.
+        child : (x : ℕ) → (1 ≤ x → 1 ≤ occ x (take tail queue)) → occ x (take (suc j) queue) ≡ 0 → Dec (1 ≤ x) → Known ws B x
+        child x f n (yes p) = let e : k ≡ suc j = omega arith in T .known x (f p) (rw e n)
+        child x f n (no p) = let z : x ≡ 0 = omega arith in rw z (T .none)
 
-    reached-more : (x : ℕ) → 1 ≤ x → Noted ws memo' x → Dec (x ≡ i) → Reached ws x
-    reached-more x l p (yes e) = rw e (q .reached)
-    reached-more x l p (no d) = q .survey .reached x l (noted-less x d p)
+        pub settling-asks : Settle ws B i
+        settling-asks =
+            let P = W .past j (omega (arith, T .high)) in
+            record {
+              within = W .within;
+              low = W .inside i here .0;
+              high = W .inside i here .1;
+              left = child (left ws i) (W .lefts i here) (rw ei (P .left-after)) (decLe 1 (left ws i));
+              right = child (right ws i) (W .rights i here) (rw ei (P .right-after)) (decLe 1 (right ws i));
+            }
 
-    survey-more : Survey ws memo'
-    survey-more =
-        record {
-          within = q .survey .within;
-          room = omega (arith, noting-length memo i s, q .survey .room);
-          none = noted-more 0 (record { high = omega arith; seen = q .survey .none }) .seen;
-          known = λ x p. known-more x p (ℕ-discrete x i);
-          closed = λ x l p. closed-more x l p (ℕ-discrete x i);
-          reached = λ x l p. reached-more x l p (ℕ-discrete x i);
-        }
+        module _ (B' : ℕ → Brief) (r : Bool) (d : Answers r (Settled ws B B' i) (Barren ws i)) where
+          pub settling-no : not r ≡ true → Answers false (AllKnown ws B') (Sound ws → ⊥)
+          settling-no e = say-no (λ S. let t = reached-good ws S (W .reached i here) in heard-no r d e .none (t .0) (t .1) (t .2))
 
-    settled : Settled ws memo memo' i true
-    settled = record { grown = record { survey = survey-more; grows = noted-more }; answer = say-yes noted-here }
+          module _ (e : not r ≡ false) where
+            kept : (x : ℕ) → (x ≡ i → ⊥) → Known ws B x → Known ws B' x
+            kept x f K = record { tree = K .tree; holds = K .holds; tells = rw (heard-yes r d e .other x f) (K .tells) }
 
-  pub settle-yes : (r : Bool) → Decides r (Fits c k a b) → not r ≡ false → (s : Brief) → Joined c k a b s → (m : List ℕ) →
-      m ≡ noting memo i s → Settled ws memo m i true
-  settle-yes r d e s j m w = rw w (settled s (heard-yes r d e) j)
+            known-more : (x : ℕ) → 1 ≤ occ x (take tail queue) → occ x (take j queue) ≡ 0 → Dec (x ≡ i) → Known ws B' x
+            known-more x o n (yes z) = rw z (heard-yes r d e .known)
+            known-more x o n (no f) =
+                let a : k ≡ suc j = omega arith in
+                let b : occ x (take (suc j) queue) ≡ 0 = omega (arith, occ-next x j queue settling-place, same-ne (getD queue j 0) x (λ z. f (sym z ∙ sym ei))) in
+                kept x f (T .known x o (rw a b))
+
+            pub settling-more : Settling ws queue tail j B'
+            settling-more =
+                record {
+                  high = omega (arith, T .high);
+                  none = kept 0 (λ z. omega (arith, W .inside i here .0)) (T .none);
+                  known = λ x o n. known-more x o n (ℕ-discrete x i);
+                }
+
+-- The loop, in scratch that was memo₀ and ends₀ at first.
+pub record SettlingTo (ws queue : List ℕ) (tail : ℕ) (memo₀ ends₀ : List ℕ) (k : ℕ) (memo ends : List ℕ) : Type 0 where
+  pub settling : Settling ws queue tail k (briefs memo ends)
+  pub memo-long : length memo ≡ length memo₀
+  pub ends-long : length ends ≡ length ends₀

@@ -1,5 +1,9 @@
 pub mod Answer
 pub mod Summary
-pub mod Memo
-pub mod Survey
-pub mod Tally
+pub mod Within
+pub mod Ways
+pub mod Queue
+pub mod Spare
+pub mod Whole
+pub mod Packed
+pub mod Known

@@ -6,7 +6,7 @@ use Prim.Native.Nat.{ℕ, suc, _+_, _≤_, _<_}
 use Rattle.trees.specs.Tree.{Entry, red, black, Tree, listing, size, isRed}
 use Rattle.trees.specs.Listing.{Ascending}
 use Rattle.trees.specs.Shape.{Rb}
-use Rattle.words.specs.Layout.{code, maxNodes}
+use Rattle.words.specs.Layout.{code}
 
 -- The words of a summary. `blacks` is one more than the black nodes on each way down, so that 0 says: nothing noted.
 pub record Brief : Type 0 where
@@ -82,14 +82,3 @@ pub record Joined (c k : ℕ) (l r b : Brief) : Type 0 where
   pub least : Outermost (l .size) (l .least) k (b .least)
   pub greatest : Outermost (r .size) (r .greatest) k (b .greatest)
   pub color-is : b .color ≡ c
-
--- The numbers of a summary that is noted are small, so that sums of two fit.
-pub record Small (b : Brief) : Type 0 where
-  pub blacks-low : b .blacks ≤ suc maxNodes
-  pub size-low : b .size ≤ maxNodes
-
--- What joining two summaries under a node of colour c asks.
-pub record Joinable (c : ℕ) (l r : Brief) : Type 0 where
-  pub known : c ≤ code black
-  pub left : Small l
-  pub right : Small r

@@ -1,0 +1,14 @@
+-- What it takes to read the words of an arena.
+use mathlib.Core.List.{List}
+use Prim.Native.Nat.{ℕ, _+_, _*_, _≤_}
+use lib.ListN.{length}
+use Rattle.words.specs.Layout.{nodes, slots, nodeWords, headerWords}
+use Rattle.words.specs.Sound.{Limits}
+
+-- "the N and V it records are within their limits and agree with its length"
+abbrev pub Within : List ℕ → Type 0
+Within ws = Limits (nodes ws) (slots ws) (length ws)
+
+-- The words of node i are there.
+abbrev pub Inside : List ℕ → ℕ → Type 0
+Inside ws i = nodeWords * i + headerWords ≤ length ws
