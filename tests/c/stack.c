@@ -11,11 +11,25 @@
 #define STACK (256 * 1024)
 #define PAINT 0xa5
 
-/* What include/foamcorbel.h promises. */
-#define PROMISED (64 * 1024)
+/* An arena of this many nodes, and the most bytes for its soundness test and for any call on it. The
+ * last are what include/foamcorbel.h promises; the first are the scratch of the arena's size and
+ * little more, so that they tell whether a small arena pays for a large one. */
+typedef struct {
+    uint32_t nodes;
+    size_t test;
+    size_t call;
+} limit;
 
-/* As many entries as the largest arena can hold with enough nodes left for a removal. */
-#define ENTRIES 1900
+static const limit limits[] = {
+    {15, 2 * 1024, 16 * 1024},
+    {63, 2 * 1024, 16 * 1024},
+    {255, 6 * 1024, 16 * 1024},
+    {FOAMCORBEL_MAX_NODES, 40 * 1024, 48 * 1024},
+};
+
+static uint32_t words[FOAMCORBEL_WORDS(FOAMCORBEL_MAX_NODES, FOAMCORBEL_MAX_SLOTS)];
+static uint32_t nodes;
+static size_t len;
 
 /* Nothing, for what a thread takes by itself. */
 static void *nothing(void *unused)
@@ -23,39 +37,42 @@ static void *nothing(void *unused)
     return unused;
 }
 
-static uint32_t words[FOAMCORBEL_WORDS(FOAMCORBEL_MAX_NODES, FOAMCORBEL_MAX_SLOTS)];
-static const size_t len = sizeof words / sizeof *words;
-static uint32_t slot;
-
-/* Fills the largest arena, then removes and compares. */
-static void *history(void *unused)
+/* Removes a key of the version and compares with what is left, where there is room. */
+static void remove_and_compare(uint32_t slot, uint32_t key)
 {
     uint32_t next = 0;
     int32_t sign = 0;
-    EXPECT(foamcorbel_format(words, len, FOAMCORBEL_MAX_NODES, FOAMCORBEL_MAX_SLOTS) == FOAMCORBEL_ACCEPTED);
-    EXPECT(foamcorbel_new_version(words, len, &slot) == FOAMCORBEL_ACCEPTED);
-    for (uint32_t key = 0; key < ENTRIES; key++) {
-        EXPECT(foamcorbel_insert(words, len, slot, key, key, &next) == FOAMCORBEL_ACCEPTED);
-        EXPECT(foamcorbel_release(words, len, slot) == FOAMCORBEL_ACCEPTED);
-        slot = next;
-    }
-    for (uint32_t key = 0; key < ENTRIES; key += 7) {
-        EXPECT(foamcorbel_remove(words, len, slot, key, &next) == FOAMCORBEL_ACCEPTED);
-        EXPECT(foamcorbel_compare(words, len, next, slot, &sign) == FOAMCORBEL_ACCEPTED && sign == 1);
+    if (foamcorbel_remove(words, len, slot, key, &next) == FOAMCORBEL_ACCEPTED) {
+        EXPECT(foamcorbel_compare(words, len, slot, next, &sign) == FOAMCORBEL_ACCEPTED && sign != 0);
         EXPECT(foamcorbel_release(words, len, next) == FOAMCORBEL_ACCEPTED);
     }
+}
+
+/* Fills an arena until an insertion is refused; at each size a removal, a comparison and a lookup. */
+static void *history(void *unused)
+{
+    uint32_t slot = 0;
+    uint32_t next = 0;
+    uint32_t value = 0;
+    uint32_t key = 0;
+    EXPECT(foamcorbel_format(words, len, nodes, FOAMCORBEL_MAX_SLOTS) == FOAMCORBEL_ACCEPTED);
+    EXPECT(foamcorbel_new_version(words, len, &slot) == FOAMCORBEL_ACCEPTED);
+    while (foamcorbel_insert(words, len, slot, key, key, &next) == FOAMCORBEL_ACCEPTED) {
+        EXPECT(foamcorbel_release(words, len, slot) == FOAMCORBEL_ACCEPTED);
+        slot = next;
+        EXPECT(foamcorbel_get(words, len, slot, key, &value) == FOAMCORBEL_ACCEPTED && value == key);
+        remove_and_compare(slot, key / 2);
+        key++;
+    }
+    EXPECT(key > nodes / 2);
     return unused;
 }
 
-/* Looks every key up in the filled arena, and one that is not there. What this takes is the
- * soundness test's: the descent comes after it and takes less. */
-static void *lookups(void *unused)
+/* The soundness test of the arena that the history filled. */
+static void *test(void *unused)
 {
-    uint32_t value = ENTRIES;
-    for (uint32_t key = 0; key < ENTRIES; key++) {
-        EXPECT(foamcorbel_get(words, len, slot, key, &value) == FOAMCORBEL_ACCEPTED && value == key);
-    }
-    EXPECT(foamcorbel_get(words, len, slot, ENTRIES, &value) == FOAMCORBEL_ABSENT);
+    uint32_t sound = 0;
+    EXPECT(foamcorbel_sound(words, len, &sound) == FOAMCORBEL_ACCEPTED && sound == 1);
     return unused;
 }
 
@@ -78,15 +95,23 @@ static size_t taken(void *(*run)(void *))
     while (untouched < STACK && stack[untouched] == PAINT) {
         untouched++;
     }
+    EXPECT(munmap(stack, STACK) == 0);
     return STACK - untouched;
 }
 
 int main(void)
 {
     size_t itself = taken(nothing);
-    size_t calls = taken(history) - itself;
-    size_t gets = taken(lookups) - itself;
-    printf("stack: the calls took %lu bytes, get alone %lu\n", (unsigned long)calls, (unsigned long)gets);
-    EXPECT(calls < PROMISED && gets > 0 && gets <= calls);
+    for (size_t i = 0; i < sizeof limits / sizeof *limits; i++) {
+        size_t calls = 0;
+        size_t tested = 0;
+        nodes = limits[i].nodes;
+        len = FOAMCORBEL_WORDS(nodes, FOAMCORBEL_MAX_SLOTS);
+        calls = taken(history) - itself;
+        tested = taken(test) - itself;
+        printf("stack: at %lu nodes the calls took %lu bytes, the test alone %lu\n", (unsigned long)nodes,
+               (unsigned long)calls, (unsigned long)tested);
+        EXPECT(calls < limits[i].call && tested < limits[i].test && tested <= calls);
+    }
     return report("stack");
 }
