@@ -1,12 +1,13 @@
 //! The proved library, called through its C functions, on words that are watched from outside.
 
 pub mod call;
-mod functions;
+pub mod functions;
 pub mod layout;
 pub mod lent;
 pub mod outcome;
 
 use call::{Answer, Call};
+use functions::LINKED;
 use lent::Lent;
 
 /// What answers the calls: the library, or the library with a fault put in to see that it is found.
@@ -20,6 +21,6 @@ pub struct Library;
 
 impl Subject for Library {
     fn call(&mut self, lent: &mut Lent, call: Call) -> Answer {
-        functions::call(lent.words_mut(), call)
+        LINKED.call(lent.words_mut(), call)
     }
 }
