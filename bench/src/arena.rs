@@ -37,21 +37,44 @@ fn key(i: usize) -> u32 {
 impl Arena {
     /// The versions differ from one another in a value as long as `reserve` nodes stay free; further ones are second slots for the last.
     pub fn new(plan: Plan, reserve: usize) -> Arena {
-        let mut lent = Lent::arena(plan.n, plan.v, 0);
-        expect(&mut lent, Call::Format { n: plan.n, v: plan.v }, Answer::Done);
-        expect(&mut lent, Call::New, Answer::Word(0));
-        let (mut map, mut slot) = (Map::new(), 0);
-        for i in 0..plan.entries {
-            expect(&mut lent, Call::Insert { s: slot, key: key(i), value: i as u32 }, Answer::Word(1 - slot));
-            expect(&mut lent, Call::Release { s: slot }, Answer::Done);
-            map.insert_mut(key(i), i as u32);
-            slot = 1 - slot;
-        }
-        let mut keys: Vec<u32> = (0..plan.entries).map(key).collect();
-        keys.sort();
-        let mut arena = Arena { lent, slots: vec![slot], maps: vec![map], keys };
+        let mut arena = Arena::formatted(plan.n, plan.v);
+        arena.build((0..plan.entries).map(|i| (key(i), i as u32)));
         (1..plan.versions).for_each(|number| arena.add_version(number, reserve));
         arena
+    }
+
+    /// Two versions of the same entries that share no node, built in opposite orders, and a third
+    /// that shares with the second and has another value at the greatest key.
+    pub fn built_apart(n: u32, v: u32, entries: usize) -> Arena {
+        let mut arena = Arena::formatted(n, v);
+        arena.build((0..entries).map(|i| (key(i), i as u32)));
+        arena.build((0..entries).rev().map(|i| (key(i), i as u32)));
+        let free = n - 2 * entries as u32;
+        assert_eq!(word(&mut arena.lent, Call::FreeNodes), free, "no node is shared");
+        arena.add_version(1, 0);
+        assert_ne!(arena.maps[1], arena.maps[2], "there was room for the third version");
+        arena
+    }
+
+    /// An arena without a version.
+    pub fn formatted(n: u32, v: u32) -> Arena {
+        let mut lent = Lent::arena(n, v, 0);
+        expect(&mut lent, Call::Format { n, v }, Answer::Done);
+        Arena { lent, slots: Vec::new(), maps: Vec::new(), keys: Vec::new() }
+    }
+
+    /// Adds a version of these entries, each inserted into the version before, which is released.
+    fn build(&mut self, entries: impl Iterator<Item = (u32, u32)>) {
+        let (mut slot, mut map) = (word(&mut self.lent, Call::New), Map::new());
+        for (key, value) in entries {
+            let next = word(&mut self.lent, Call::Insert { s: slot, key, value });
+            expect(&mut self.lent, Call::Release { s: slot }, Answer::Done);
+            map.insert_mut(key, value);
+            slot = next;
+        }
+        self.keys = map.keys().copied().collect();
+        self.slots.push(slot);
+        self.maps.push(map);
     }
 
     /// Sets the greatest key in the newest version, or holds that once more where the nodes run short.
@@ -59,18 +82,14 @@ impl Arena {
         let s = *self.slots.last().expect("a version is held");
         let map = self.maps.last().expect("a version is held");
         let greatest = *self.keys.last().expect("a version has entries");
-        let Answer::Word(free) = call(&mut self.lent, Call::FreeNodes) else { unreachable!("the arena is sound") };
-        let fits = free as usize > reserve + height(self.keys.len());
+        let fits = word(&mut self.lent, Call::FreeNodes) as usize > reserve + height(self.keys.len());
         let value = 10_000 + number as u32;
         let (made, map) = if fits {
             (Call::Insert { s, key: greatest, value }, map.insert(greatest, value))
         } else {
             (Call::Hold { s }, map.clone())
         };
-        match call(&mut self.lent, made) {
-            Answer::Word(slot) => self.slots.push(slot),
-            other => panic!("{made:?} gave {other:?}"),
-        }
+        self.slots.push(word(&mut self.lent, made));
         self.maps.push(map);
     }
 
@@ -82,15 +101,16 @@ impl Arena {
         self.maps.last().expect("a version is held")
     }
 
-    /// Gives up one version that is not the newest, so that a call can hand out the last slot.
-    pub fn make_room(&mut self) {
-        let s = self.slots.remove(0);
-        self.maps.remove(0);
+    /// Gives up the version at this place of the list.
+    pub fn give_up(&mut self, place: usize) {
+        let s = self.slots.remove(place);
+        self.maps.remove(place);
         expect(&mut self.lent, Call::Release { s }, Answer::Done);
     }
 
-    /// So many keys spread over the listing.
+    /// So many keys spread over the listing, none of an empty one.
     pub fn some_keys(&self, count: usize) -> Vec<u32> {
+        let count = if self.keys.is_empty() { 0 } else { count };
         (0..count).map(|i| self.keys[(i * self.keys.len() + self.keys.len() / 2) / count]).collect()
     }
 
@@ -109,4 +129,12 @@ pub fn call(lent: &mut Lent, call: Call) -> Answer {
 /// The call has to give this answer: what is timed has to be what was meant.
 pub fn expect(lent: &mut Lent, made: Call, answer: Answer) {
     assert_eq!(call(lent, made), answer, "{made:?}");
+}
+
+/// The word that a call gives, which has to be accepted.
+pub fn word(lent: &mut Lent, made: Call) -> u32 {
+    match call(lent, made) {
+        Answer::Word(word) => word,
+        other => panic!("{made:?} gave {other:?}"),
+    }
 }

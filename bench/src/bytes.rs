@@ -1,5 +1,7 @@
 //! How many bytes rpds's maps take: an allocator that counts while it is asked to.
-use crate::arena::{Arena, Map, Plan, call};
+use crate::answers::free_nodes;
+use crate::arena::{Arena, Map, Plan};
+use crate::revision::Revision;
 use library::call::{Answer, Call};
 use std::alloc::{GlobalAlloc, Layout, System};
 use std::sync::atomic::{AtomicBool, AtomicI64, Ordering::Relaxed};
@@ -46,32 +48,34 @@ fn counted<T>(work: impl FnOnce() -> T) -> (T, i64, i64) {
     (made, ASKED.load(Relaxed) - before.0, HEAP.load(Relaxed) - before.1)
 }
 
-pub fn table(sizes: &[usize]) {
+pub fn table(revisions: &[Revision], sizes: &[usize]) {
+    let ours: Vec<String> = revisions.iter().map(|revision| format!("{}, a further version", revision.name)).collect();
     println!(
-        "| entries | rpds asked for, an entry | rpds on the heap, an entry | rpds on the heap, a further version | ours, an entry | ours, a further version |"
+        "| entries | rpds asked for, an entry | rpds on the heap, an entry | rpds on the heap, a further version | ours, an entry | {} |",
+        ours.join(" | ")
     );
-    println!("|---|---|---|---|---|---|");
+    println!("|---|---|---|---|---|{}", "---|".repeat(revisions.len()));
     for entries in sizes {
-        let plan = Plan { n: 2047, v: 32, entries: *entries, versions: 1 };
-        let mut arena = Arena::new(plan, 0);
-        let (keys, greatest) = (arena.keys.clone(), *arena.keys.last().expect("entries"));
+        let arena = Arena::new(Plan { n: 2047, v: 32, entries: *entries, versions: 1 }, 0);
+        let (keys, greatest) = (&arena.keys, *arena.keys.last().expect("entries"));
         let (map, asked, heap) = counted(|| keys.iter().map(|key| (*key, *key)).collect::<Map>());
         let (_further, _, more) = counted(|| map.insert(greatest, 1));
-        let (before, s) = (free(&mut arena), arena.newest());
-        call(&mut arena.lent, Call::Insert { s, key: greatest, value: 1 });
-        let taken = before - free(&mut arena);
+        let ours: Vec<String> =
+            revisions.iter().map(|revision| further(revision, &arena, greatest).to_string()).collect();
         println!(
             "| {entries} | {:.0} | {:.0} | {more} | 24 | {} |",
             asked as f64 / *entries as f64,
             heap as f64 / *entries as f64,
-            24 * taken + 8
+            ours.join(" | ")
         );
     }
 }
 
-fn free(arena: &mut Arena) -> u32 {
-    match call(&mut arena.lent, Call::FreeNodes) {
-        Answer::Word(free) => free,
-        other => panic!("free nodes gave {other:?}"),
-    }
+/// The bytes that one more version of the arena takes, in which the greatest key has another value.
+fn further(revision: &Revision, arena: &Arena, greatest: u32) -> usize {
+    let mut lent = arena.lent.clone();
+    let made = Call::Insert { s: arena.newest(), key: greatest, value: 1 };
+    let answer = revision.call(&mut lent, made);
+    assert!(matches!(answer, Answer::Word(_)), "{made:?} gave {answer:?}");
+    24 * (free_nodes(arena.lent.words()) - free_nodes(lent.words())) + 8
 }

@@ -1,83 +1,91 @@
 //! `bench FILE.svg`: prints the tables of docs/PERFORMANCE.md and draws the plot.
-//! `bench since BEFORE.so NOW.so`: prints those of get at two revisions.
+//! `bench BEFORE NOW [TABLE..]`: the same tables, and more, of two revisions in the folders that
+//! bench/run makes; all of them, or those that are named.
+mod above;
+mod answers;
 mod arena;
+mod by_size;
 mod bytes;
 mod calls;
+mod comparisons;
+mod descents;
+mod history;
 mod plot;
+mod program;
 mod revision;
-mod since;
+mod shown;
 mod soundness;
+mod steps;
 mod timing;
 
-use arena::{Plan, height};
-use calls::{CALLS, Times};
+use by_size::{Row, SIZES, TABLES};
+use revision::Revision;
 use std::process::ExitCode;
 
 #[global_allocator]
 static ALLOCATOR: bytes::Counting = bytes::Counting;
 
-const SIZES: [usize; 4] = [16, 128, 1024, 2000];
-
-/// A removal from 2,000 entries needs 122 free nodes, and 47 are left: the last size is 1,900 for it.
-const MOST_FOR_REMOVAL: usize = 1900;
-
 /// How often everything is measured: the least times are taken, so that a while of other work on the machine does not show.
 const PASSES: usize = 4;
 
-/// A call's times by the sizes.
-pub type Row = (&'static str, Vec<Times>);
+/// The same for two revisions, where a pass is longer.
+const PASSES_OF_TWO: usize = 2;
 
-/// What a table is of: its heading, its name in the plot, and its arenas by the number of entries.
-type Table = (&'static str, &'static str, fn(usize) -> Plan);
+type Section = (&'static str, fn(&[Revision]));
 
-const TABLES: [Table; 4] = [
-    ("N = 2,047 and V = 32, versions held: 1", "1 version", |entries| largest(entries, 1)),
-    ("N = 2,047 and V = 32, versions held: 3", "3 versions", |entries| largest(entries, 3)),
-    ("N = 2,047 and V = 32, versions held: 32", "32 versions", |entries| largest(entries, 32)),
-    ("Arenas cut to size, V = 4, versions held: 3", "cut to size", cut_to_size),
+/// What is printed of two revisions, by the names that can be asked for. The bytes come first: how
+/// many rpds takes of the heap depends on what was done with it before.
+const SECTIONS: [Section; 7] = [
+    ("bytes", bytes_table),
+    ("soundness", soundness_of_two),
+    ("compare", comparisons::table),
+    ("steps", steps::table),
+    ("list", program::table),
+    ("get", descents::tables),
+    ("calls", calls_of_two),
 ];
 
-fn largest(entries: usize, versions: usize) -> Plan {
-    Plan { n: 2047, v: 32, entries, versions }
-}
-
-/// With room for a removal and some versions.
-fn cut_to_size(entries: usize) -> Plan {
-    Plan { n: (entries + 6 * height(entries) + 60).min(2047) as u32, v: 4, entries, versions: 3 }
-}
+/// One name for the tables of the times for which requests set an aim.
+const AIMS: (&str, [&str; 4]) = ("aims", ["soundness", "compare", "steps", "list"]);
 
 fn main() -> ExitCode {
     let words: Vec<String> = std::env::args().skip(1).collect();
-    match &words.iter().map(String::as_str).collect::<Vec<&str>>()[..] {
-        ["since", before, now] => since::tables(before, now),
-        [file] => return tables(file),
+    match &words[..] {
+        [file] => tables(file),
+        [before, now, named @ ..] if named.iter().all(|name| is_known(name)) => {
+            // SAFETY: bench/run names the two folders that it made.
+            let revisions = unsafe { [Revision::open("before", before), Revision::open("now", now)] };
+            let sections = SECTIONS.iter().filter(|(name, _)| is_asked_for(name, named));
+            sections.for_each(|(_, print)| print(&revisions));
+            ExitCode::SUCCESS
+        }
         _ => {
-            eprintln!("usage: bench FILE.svg, or bench since BEFORE.so NOW.so");
-            return ExitCode::FAILURE;
+            let names = SECTIONS.map(|(name, _)| name).join(", ");
+            eprintln!("usage: bench FILE.svg, or bench BEFORE NOW [TABLE..], a TABLE being {names}, or {}", AIMS.0);
+            ExitCode::FAILURE
         }
     }
-    ExitCode::SUCCESS
 }
 
-/// All tables, and the plot in the file.
+fn is_known(name: &str) -> bool {
+    name == AIMS.0 || SECTIONS.iter().any(|section| section.0 == name)
+}
+
+/// Without names, every section is.
+fn is_asked_for(section: &str, named: &[String]) -> bool {
+    let covers = |name: &String| name == section || name == AIMS.0 && AIMS.1.contains(&section);
+    named.is_empty() || named.iter().any(covers)
+}
+
+/// All tables of the library that is linked, and the plot in the file.
 fn tables(file: &str) -> ExitCode {
+    let revisions = [Revision::linked()];
     println!("## The soundness test\n");
-    soundness::table(PASSES);
-    println!("\n## Bytes\n");
-    bytes::table(&SIZES);
-    let mut tables: Vec<Vec<Row>> = TABLES.iter().map(|table| measure(table.2)).collect();
-    for _ in 1..PASSES {
-        for (rows, table) in tables.iter_mut().zip(TABLES) {
-            rows.iter_mut().zip(measure(table.2)).for_each(|(row, again)| keep_least(&mut row.1, &again.1));
-        }
-    }
-    for (rows, table) in tables.iter().zip(TABLES) {
-        println!("\n## {}\n", table.0);
-        print(rows);
-    }
-    let named: Vec<(&str, &Vec<Row>)> = TABLES.iter().zip(&tables).map(|(table, rows)| (table.1, rows)).collect();
-    let drawn = plot::draw(&SIZES, &named);
-    match std::fs::write(file, drawn) {
+    soundness::table(&revisions, &mut soundness::planted(), PASSES);
+    bytes_table(&revisions);
+    let tables = by_size::tables(&revisions, PASSES);
+    let named: Vec<(&str, &Vec<Row>)> = TABLES.iter().map(|table| table.name).zip(&tables).collect();
+    match std::fs::write(file, plot::draw(&SIZES, &named)) {
         Ok(()) => ExitCode::SUCCESS,
         Err(error) => {
             eprintln!("{file}: {error}");
@@ -86,40 +94,18 @@ fn tables(file: &str) -> ExitCode {
     }
 }
 
-/// Every call at every size.
-fn measure(plan: fn(usize) -> Plan) -> Vec<Row> {
-    let row = |(name, measure): &(&'static str, calls::Measure)| {
-        let most = if *name == "remove" { MOST_FOR_REMOVAL } else { usize::MAX };
-        (*name, SIZES.iter().map(|size| measure(plan((*size).min(most)))).collect())
-    };
-    CALLS.iter().map(row).collect()
+fn soundness_of_two(revisions: &[Revision]) {
+    println!("\n## The soundness test after random edits\n");
+    soundness::table(revisions, &mut soundness::after_histories(revisions), PASSES);
+    println!("\n## The soundness test on planted arenas, the nodes in the order of the keys\n");
+    soundness::table(revisions, &mut soundness::planted(), PASSES);
 }
 
-/// A call and its test are kept from one pass, as the one's share of the other is asked for.
-fn keep_least(times: &mut [Times], again: &[Times]) {
-    for (kept, other) in times.iter_mut().zip(again) {
-        let rpds = kept.rpds.min(other.rpds);
-        *kept = Times { rpds, ..if other.ours < kept.ours { *other } else { *kept } };
-    }
+fn bytes_table(revisions: &[Revision]) {
+    println!("\n## Bytes\n");
+    bytes::table(revisions, &SIZES);
 }
 
-fn print(rows: &[Row]) {
-    let heads: Vec<String> = SIZES.iter().map(|size| format!("{size}: ours µs | test % | rpds µs")).collect();
-    println!("| call | {} |", heads.join(" | "));
-    println!("|---|{}", "---|".repeat(3 * SIZES.len()));
-    for (name, times) in rows {
-        let cells: Vec<String> = times.iter().map(cell).collect();
-        println!("| {name} | {} |", cells.join(" | "));
-    }
-}
-
-fn cell(times: &Times) -> String {
-    let micros = |nanos: f64| match nanos {
-        nanos if nanos < 10.0 => format!("{:.4}", nanos / 1000.0),
-        nanos if nanos < 1000.0 => format!("{:.3}", nanos / 1000.0),
-        nanos if nanos < 1e5 => format!("{:.1}", nanos / 1000.0),
-        nanos => format!("{:.0}", nanos / 1000.0),
-    };
-    let share = 100.0 * times.test / times.ours;
-    format!("{} | {share:.0} | {}", micros(times.ours), micros(times.rpds))
+fn calls_of_two(revisions: &[Revision]) {
+    by_size::tables(revisions, PASSES_OF_TWO);
 }

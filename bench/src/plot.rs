@@ -1,5 +1,5 @@
 //! The plot: time against entries, both by powers, a panel for each call.
-use crate::Row;
+use crate::by_size::Row;
 use std::fmt::Write;
 
 const PANELS: [&str; 6] = ["get", "insert", "remove", "step", "compare", "walk over all"];
@@ -64,11 +64,11 @@ fn panel(svg: &mut String, at: (f64, f64), name: &str, sizes: &[usize], tables: 
     let ours = tables.iter().zip(COLORS).map(|((_, table), color)| Line {
         color,
         dashes: "none",
-        points: times(table).iter().map(|t| t.ours).collect(),
+        points: times(table).iter().map(|t| t.now().call).collect(),
     });
     let rpds = Line { color: RPDS_COLOR, dashes: "none", points: others.iter().map(|t| t.rpds).collect() };
     // The test comes last, in dashes, as it hides a line of ours otherwise.
-    let test = Line { color: TEST_COLOR, dashes: "3 5", points: others.iter().map(|t| t.test).collect() };
+    let test = Line { color: TEST_COLOR, dashes: "3 5", points: others.iter().map(|t| t.now().test).collect() };
     let lines: Vec<Line> = ours.chain([rpds, test]).collect();
     for line in &lines {
         let points: Vec<(f64, f64)> =

@@ -1,6 +1,12 @@
-//! A revision of the library in a shared object, so that two can be called in one process.
-use std::ffi::{CStr, CString, c_char, c_int, c_void};
+//! A build of the library: the one that is linked, or that of a revision in shared objects, so that
+//! two can be called in one process.
+use library::call::{Answer, Bound, Call, END, End, Walk};
+use library::functions::{Functions, LINKED};
+use library::lent::Lent;
+use std::ffi::{CString, c_char, c_int, c_void};
 use std::mem::transmute;
+use std::path::{Path, PathBuf};
+use std::ptr::NonNull;
 
 unsafe extern "C" {
     fn dlopen(file: *const c_char, mode: c_int) -> *mut c_void;
@@ -10,15 +16,24 @@ unsafe extern "C" {
 /// Every name is looked up at once.
 const RTLD_NOW: c_int = 2;
 
-type Get = unsafe extern "C" fn(*const u32, usize, u32, u32, *mut u32) -> u32;
-type Sound = unsafe extern "C" fn(*const u32, usize, *mut u32) -> u32;
 /// `lookup::get` as the kit compiles it: places for the answer and of the slice, the root, the key.
-type Descent = unsafe extern "C" fn(*mut Found, *const Slice, u32, u32);
+type Get = unsafe extern "C" fn(*mut Found, *const Slice, u32, u32);
+/// `comparing::compare_roots`: places for the sign and of the slice, the two roots.
+type Compare = unsafe extern "C" fn(*mut u8, *const Slice, u32, u32);
+/// `ranges::step_front` and `step_back`: places for the answer and of the slice, the root, the
+/// place of the range.
+type Step = unsafe extern "C" fn(*mut Found, *const Slice, u32, *const Range);
 
 #[repr(C)]
 struct Slice {
     words: *const u32,
     len: usize,
+}
+
+impl Slice {
+    fn of(words: &[u32]) -> Slice {
+        Slice { words: words.as_ptr(), len: words.len() }
+    }
 }
 
 /// `lookup::Found`: its first byte is 0 where there is an entry.
@@ -30,67 +45,163 @@ struct Found {
     value: u32,
 }
 
+/// A case of an enum and the key in it: `ranges::Bound` and `ranges::LastKey`.
+#[repr(C)]
+#[derive(Clone, Copy)]
+struct Case {
+    number: u8,
+    key: u32,
+}
+
+/// `ranges::Range`: what a walk keeps besides its slot.
+#[repr(C)]
+#[derive(Clone, Copy)]
+pub struct Range {
+    start: Case,
+    end: Case,
+    front: Case,
+    back: Case,
+}
+
+impl Range {
+    pub fn of(walk: &Walk) -> Range {
+        let bound = |Bound { kind, key }| Case { number: [2, 0, 1][if kind < 3 { kind as usize } else { 0 }], key };
+        let last = |(given, key): (u32, u32)| Case { number: u8::from(given == 0), key };
+        Range { start: bound(walk.start), end: bound(walk.end), front: last(walk.front), back: last(walk.back) }
+    }
+}
+
+/// The functions below the soundness test to which bench/run gave a second name; none where the
+/// revision has no such function, or has it with other types.
+#[derive(Default)]
+struct Inner {
+    get: Option<Get>,
+    compare: Option<Compare>,
+    step_front: Option<Step>,
+    step_back: Option<Step>,
+}
+
 pub struct Revision {
-    get: Get,
-    sound: Sound,
-    descent: Descent,
+    /// What the tables call it.
+    pub name: &'static str,
+    functions: &'static Functions,
+    inner: Inner,
+    /// The folder of a revision's files.
+    folder: PathBuf,
 }
 
 impl Revision {
-    /// The object is never closed: its functions are called until the process ends.
+    pub fn linked() -> Revision {
+        Revision { name: "ours", functions: &LINKED, inner: Inner::default(), folder: PathBuf::new() }
+    }
+
+    /// The objects are never closed: their functions are called until the process ends.
     ///
     /// # Safety
-    /// The file is one that bench/since makes: its functions have the types above.
-    pub unsafe fn open(file: &str) -> Revision {
-        let path = CString::new(file).expect("a path without a zero byte");
-        // SAFETY: the path is a string of C's; the object has no code that runs when it is opened.
-        let object = unsafe { dlopen(path.as_ptr(), RTLD_NOW) };
-        assert!(!object.is_null(), "{file} cannot be opened");
-        let named = |name: &CStr| {
-            // SAFETY: the object is open and the name is a string of C's.
-            let place = unsafe { dlsym(object, name.as_ptr()) };
-            assert!(!place.is_null(), "{file} has no {name:?}");
-            place
+    /// The folder is one that bench/run makes: the functions of its objects have the types above.
+    pub unsafe fn open(name: &'static str, folder: &str) -> Revision {
+        let folder = PathBuf::from(folder);
+        let object = Object::open(&folder.join("library.so"));
+        // SAFETY: the caller's.
+        let functions = unsafe { Functions::at(|name| object.place(name)) };
+        let inner = |file: &str| {
+            let file = folder.join(file);
+            file.exists().then(|| Object::open(&file).place("inner"))
         };
-        // SAFETY: the caller's: these names have these types.
-        unsafe {
-            Revision {
-                get: transmute::<*mut c_void, Get>(named(c"foamcorbel_get")),
-                sound: transmute::<*mut c_void, Sound>(named(c"foamcorbel_sound")),
-                descent: transmute::<*mut c_void, Descent>(named(c"descent")),
+        // SAFETY: the caller's.
+        let inner = unsafe {
+            Inner {
+                get: inner("get.so").map(|place| transmute::<NonNull<c_void>, Get>(place)),
+                compare: inner("compare_roots.so").map(|place| transmute::<NonNull<c_void>, Compare>(place)),
+                step_front: inner("step_front.so").map(|place| transmute::<NonNull<c_void>, Step>(place)),
+                step_back: inner("step_back.so").map(|place| transmute::<NonNull<c_void>, Step>(place)),
             }
-        }
+        };
+        Revision { name, functions: Box::leak(Box::new(functions)), inner, folder }
     }
 
-    /// The public call; ABSENT is none, and nothing else is expected.
-    pub fn get(&self, words: &[u32], slot: u32, key: u32) -> Option<u32> {
-        let mut value = 0;
-        // SAFETY: the words are lent by their length, and the value is one word.
-        match unsafe { (self.get)(words.as_ptr(), words.len(), slot, key, &mut value) } {
-            0 => Some(value),
-            5 => None,
-            refusal => panic!("get was refused with {refusal}"),
-        }
+    pub fn program(&self) -> PathBuf {
+        self.folder.join("program")
     }
 
-    pub fn sound(&self, words: &[u32]) -> bool {
-        let mut sound = 0;
-        // SAFETY: the words are lent by their length, and the answer is one word.
-        unsafe { (self.sound)(words.as_ptr(), words.len(), &mut sound) };
-        sound == 1
+    pub fn call(&self, lent: &mut Lent, made: Call) -> Answer {
+        self.functions.call(lent.words_mut(), made)
     }
 
-    /// The descent alone, to each key in turn; `see` is given the answers.
+    /// The lookup below the test, of each key in turn; `see` is given the values.
     ///
     /// # Safety
     /// The words are a sound arena, and the root is a held slot's.
-    pub unsafe fn descend(&self, words: &[u32], root: u32, keys: &[u32], mut see: impl FnMut(Option<u32>)) {
-        let slice = Slice { words: words.as_ptr(), len: words.len() };
-        let mut found = Found::default();
+    pub unsafe fn descend(
+        &self,
+        words: &[u32],
+        root: u32,
+        keys: &[u32],
+        mut see: impl FnMut(Option<u32>),
+    ) -> Option<()> {
+        let (get, slice, mut found) = (self.inner.get?, Slice::of(words), Found::default());
         for key in keys {
             // SAFETY: both places are as large as the kit's own; the rest is the caller's.
-            unsafe { (self.descent)(&mut found, &slice, root, *key) };
+            unsafe { get(&mut found, &slice, root, *key) };
             see((found.nothing == 0).then_some(found.value));
         }
+        Some(())
+    }
+
+    /// The comparison below the test; `see` is given what the public call answers.
+    ///
+    /// # Safety
+    /// The words are a sound arena, and the roots are held slots'.
+    pub unsafe fn compare(&self, words: &[u32], roots: (u32, u32), mut see: impl FnMut(Answer)) -> Option<()> {
+        let (compare, slice, mut sign) = (self.inner.compare?, Slice::of(words), 0);
+        // SAFETY: both places are as large as the kit's own; the rest is the caller's.
+        unsafe { compare(&mut sign, &slice, roots.0, roots.1) };
+        // `answers::Sign` is less, same, more.
+        see(Answer::Word(u32::from(sign).wrapping_sub(1)));
+        Some(())
+    }
+
+    /// The steps below the test, one for each range; `see` is given what the public call answers.
+    ///
+    /// # Safety
+    /// The words are a sound arena, and the root is a held slot's.
+    pub unsafe fn step(
+        &self,
+        words: &[u32],
+        root: u32,
+        (end, ranges): (End, &[Range]),
+        mut see: impl FnMut(Answer),
+    ) -> Option<()> {
+        let step = if end == End::Front { self.inner.step_front? } else { self.inner.step_back? };
+        let (slice, mut found) = (Slice::of(words), Found::default());
+        for range in ranges {
+            // SAFETY: the three places are as large as the kit's own; the rest is the caller's.
+            unsafe { step(&mut found, &slice, root, range) };
+            see(if found.nothing == 0 { Answer::Entry(found.key, found.value) } else { Answer::Refused(END) });
+        }
+        Some(())
+    }
+}
+
+/// A shared object that is open.
+struct Object {
+    file: PathBuf,
+    handle: NonNull<c_void>,
+}
+
+impl Object {
+    fn open(file: &Path) -> Object {
+        let path = CString::new(file.to_str().expect("a path of characters")).expect("a path without a zero byte");
+        // SAFETY: the path is a string of C's; the object has no code that runs when it is opened.
+        let handle = NonNull::new(unsafe { dlopen(path.as_ptr(), RTLD_NOW) });
+        let handle = handle.unwrap_or_else(|| panic!("{} cannot be opened", file.display()));
+        Object { file: file.to_path_buf(), handle }
+    }
+
+    fn place(&self, name: &str) -> NonNull<c_void> {
+        let symbol = CString::new(name).expect("a name without a zero byte");
+        // SAFETY: the object is open and the name is a string of C's.
+        let place = NonNull::new(unsafe { dlsym(self.handle.as_ptr(), symbol.as_ptr()) });
+        place.unwrap_or_else(|| panic!("{} has no {name}", self.file.display()))
     }
 }

@@ -1,12 +1,15 @@
 //! The soundness test by itself, beside one plain pass that sums the same words.
-use crate::arena::{call, expect};
-use crate::timing::{least_of, see};
-use library::call::{Answer, Call};
+use crate::answers::{self, free_nodes};
+use crate::history::{self, Until};
+use crate::revision::Revision;
+use crate::timing::{least_of, least_times, see, time};
+use library::call::{Answer, Call, truth};
+use library::layout::{NOT_HELD, nodes, slot, slots};
 use library::lent::{Lent, arena_len};
 use std::hint::black_box;
 
 /// N, how many nodes are in use, and V.
-const ARENAS: [(usize, usize, usize); 10] = [
+const PLANTED: [(usize, usize, usize); 10] = [
     (2047, 2047, 32),
     (2047, 255, 3),
     (255, 255, 3),
@@ -19,8 +22,38 @@ const ARENAS: [(usize, usize, usize); 10] = [
     (15, 0, 3),
 ];
 
+/// N, V, how many versions are kept at most, and where the history ends.
+const HISTORIES: [(u32, u32, usize, Until); 5] = [
+    (2047, 32, 8, Until::Full),
+    (2047, 32, 8, Until::Entries(255)),
+    (2047, 32, 8, Until::Entries(0)),
+    (255, 3, 2, Until::Full),
+    (15, 3, 2, Until::Full),
+];
+
+/// How often a round calls what takes microseconds.
+const REPEATS: usize = 4;
+
+/// The same for a pass.
+const PASSES_OVER_WORDS: usize = 20;
+
+/// Arenas that no calls made: their trees are perfect and their nodes lie in the order of the keys.
+pub fn planted() -> Vec<Lent> {
+    PLANTED.iter().map(|(n, used, v)| Lent::new(&plant_arena(*n, *used, *v))).collect()
+}
+
+/// Arenas after random edits. Every revision answers on them as rpds does.
+pub fn after_histories(revisions: &[Revision]) -> Vec<Lent> {
+    let arena = |(n, v, kept, until): &(u32, u32, usize, Until)| {
+        let made = || history::after(*n, *v, *kept, *until);
+        revisions.iter().for_each(|revision| answers::check(revision, &mut made()));
+        made().lent
+    };
+    HISTORIES.iter().map(arena).collect()
+}
+
 /// An arena of n nodes and v slots, each slot holding the perfect black tree of `used` nodes, a power of two less one; the rest is free.
-fn arena(n: usize, used: usize, v: usize) -> Vec<u32> {
+fn plant_arena(n: usize, used: usize, v: usize) -> Vec<u32> {
     let mut ws = vec![0u32; arena_len(n as u32, v as u32)];
     ws[..3].copy_from_slice(&[n as u32, v as u32, if used < n { used as u32 + 1 } else { 0 }]);
     let root = if used > 0 { plant(&mut ws, 1, used) } else { 0 };
@@ -45,40 +78,58 @@ fn plant(ws: &mut [u32], first: usize, size: usize) -> usize {
     root
 }
 
-pub fn table(passes: usize) {
-    let arenas: Vec<Vec<u32>> = ARENAS.iter().map(|(n, used, v)| arena(*n, *used, *v)).collect();
-    let mut least = [(f64::INFINITY, f64::INFINITY); ARENAS.len()];
-    for _ in 0..passes {
-        for ((kept, ws), (n, used, _)) in least.iter_mut().zip(&arenas).zip(ARENAS) {
-            *kept = (kept.0.min(test(ws, n - used)), kept.1.min(pass(ws)));
+/// The least nanoseconds of each revision's test, and of the pass.
+struct Times {
+    tests: Vec<f64>,
+    pass: f64,
+}
+
+pub fn table(revisions: &[Revision], arenas: &mut [Lent], passes: usize) {
+    arenas.iter_mut().for_each(|lent| check(revisions, lent));
+    let mut least: Vec<Times> = arenas.iter_mut().map(|lent| measure(revisions, lent)).collect();
+    for _ in 1..passes {
+        for (kept, lent) in least.iter_mut().zip(arenas.iter_mut()) {
+            let again = measure(revisions, lent);
+            kept.tests.iter_mut().zip(again.tests).for_each(|(kept, other)| *kept = kept.min(other));
+            kept.pass = kept.pass.min(again.pass);
         }
     }
-    println!("| N | used | V | words | test µs | test ns/word | pass µs | pass ns/word | ratio |");
-    println!("|---|---|---|---|---|---|---|---|---|");
-    for ((n, used, v), (test, pass)) in ARENAS.into_iter().zip(least) {
-        let words = arena_len(n as u32, v as u32) as f64;
-        println!(
-            "| {n} | {used} | {v} | {words} | {:.1} | {:.2} | {:.2} | {:.3} | {:.0} |",
-            test / 1000.0,
-            test / words,
-            pass / 1000.0,
-            pass / words,
-            test / pass
-        );
+    let names = revisions.iter().map(|revision| if revisions.len() == 1 { "test" } else { revision.name });
+    let heads: String = names.map(|name| format!(" {name} µs | {name} ns/word |")).collect();
+    println!("| N | used | V | held | words |{heads} pass µs | pass ns/word | ratio |");
+    println!("|---|---|---|---|---|{}---|---|---|", "---|---|".repeat(revisions.len()));
+    arenas.iter().zip(&least).for_each(|(lent, times)| print(lent.words(), times));
+}
+
+/// The ratio is that of the present revision's test to the pass.
+fn print(words: &[u32], times: &Times) {
+    let cells = |nanos: f64| format!(" {:.2} | {:.3} |", nanos / 1000.0, nanos / words.len() as f64);
+    let tests: String = times.tests.iter().copied().map(cells).collect();
+    let used = nodes(words) - free_nodes(words);
+    let held = (0..slots(words) as u32).filter(|s| slot(words, *s).0 != NOT_HELD).count();
+    print!("| {} | {used} | {} | {held} | {} |", nodes(words), slots(words), words.len());
+    let now = times.tests.last().expect("a revision is timed");
+    println!("{tests}{} {:.0} |", cells(times.pass), now / times.pass);
+}
+
+/// The arena is sound with the free number that its words have, and a broken copy is unsound.
+fn check(revisions: &[Revision], lent: &mut Lent) {
+    let free = free_nodes(lent.words()) as u32;
+    let mut broken = lent.clone();
+    broken.words_mut()[13] += 1;
+    for revision in revisions {
+        assert_eq!(revision.call(lent, Call::Sound), truth(true), "{}: soundness", revision.name);
+        assert_eq!(revision.call(lent, Call::FreeNodes), Answer::Word(free), "{}: free nodes", revision.name);
+        assert_eq!(revision.call(&mut broken, Call::Sound), truth(false), "{}: a broken arena", revision.name);
     }
 }
 
-/// Before it is timed the arena is held to be sound with the expected free number, and a broken copy to be unsound.
-fn test(ws: &[u32], free: usize) -> f64 {
-    let mut lent = Lent::new(ws);
-    expect(&mut lent, Call::Sound, Answer::Word(1));
-    expect(&mut lent, Call::FreeNodes, Answer::Word(free as u32));
-    let mut broken = Lent::new(ws);
-    broken.words_mut()[13] += 1;
-    expect(&mut broken, Call::Sound, Answer::Word(0));
-    least_of(4, || (0..4).for_each(|_| see(call(black_box(&mut lent), Call::Sound))))
-}
-
-fn pass(ws: &[u32]) -> f64 {
-    least_of(20, || (0..20).for_each(|_| see(black_box(ws).iter().fold(0u32, |a, &w| a.wrapping_add(w)))))
+fn measure(revisions: &[Revision], lent: &mut Lent) -> Times {
+    let tests = least_times(revisions.len(), |i| {
+        time(|| (0..REPEATS).for_each(|_| see(revisions[i].call(black_box(lent), Call::Sound))))
+    });
+    let words = lent.words();
+    let sum = || black_box(words).iter().fold(0u32, |sum, word| sum.wrapping_add(*word));
+    let pass = least_of(PASSES_OVER_WORDS, || (0..PASSES_OVER_WORDS).for_each(|_| see(sum())));
+    Times { tests: tests.into_iter().map(|taken| taken / REPEATS as f64).collect(), pass }
 }
