@@ -1,4 +1,5 @@
-// Document 01's program: reads commands from standard input, one to a line, and writes the answers to standard output.
+// The program, RULES 9: reads commands from standard input, one to a line, and writes the answers
+// to standard output.
 use answering::answer;
 use answering::listed;
 use arena::MAX_NODES;

@@ -1,4 +1,4 @@
-// The limits of document 01: N is 1 to 2,047, V is 1 to 32, and both agree with the length.
+// RULES 2.7, 2.8: N is 1 to 2,047, V is 1 to 32, and both agree with the length.
 ghost use mathlib.Core.Path.{_≡_};
 ghost use Prim.Native.Nat.{_≤_};
 ghost use Rattle.words.specs.Layout.{maxNodes, maxSlots, arenaWords};

@@ -1,4 +1,5 @@
-// The first half of the soundness test: every node that is reached, each queued after all that name it, and the free list.
+// The first half of the soundness test: every node that is reached, each queued after all that name
+// it, and the free list.
 ghost use Prim.Native.Nat.{_+_, _<_};
 ghost use lib.ListN.{length};
 ghost use Rattle.words.specs.Layout.{nodes, slots};
@@ -16,10 +17,12 @@ use arena::right_of;
 use arena::slot_root;
 use arena::slots_of;
 
-// In place of the queue's end: a link is none, or has a name too many.
+// In place of the queue's end: the arena is not sound.
 pub const STOPPED: u32 = NOT_HELD;
 
-// One name more for link x: at its last name the node enters the queue. The queue's new end.
+// One name more for link x: at its last name the node enters the queue. The queue's new end. The
+// node is written behind the queue at every name, so that the processor need not guess which is the
+// last.
 fn arrive(ws: &[u32], x: u32, names: &mut [u32], queue: &mut [u32], tail: u32) -> u32
     requires { ⌜ Arriving (now ws) (now names) (now queue) tail ⌝ }
     ensures { λ r. ⌜ Arrives (now (ws .entry)) x (now (names .entry)) (now (queue .entry)) tail (now (names .exit)) (now (queue .exit)) r ⌝ }
@@ -146,7 +149,8 @@ fn free_list_right(ws: &[u32], k: u32) -> bool
     true
 }
 
-// Queues the live nodes, each after all that name it, if the free list has all others. How many they are.
+// Queues the live nodes, each after all that name it, if the free list has all others. How many
+// they are.
 pub fn live_nodes(ws: &[u32], names: &mut [u32], queue: &mut [u32]) -> u32
     requires { ⌜ Fresh (now ws) (now names) (now queue) ⌝ }
     ensures { λ r. ⌜ Onward (now (ws .entry)) r (Whole (now (ws .entry)) (now (queue .exit)) r) ⌝ }

@@ -1,4 +1,5 @@
-// The public calls of document 01: any words, slots, keys and ranges may come in. Each call tests the arena and then does what the table says.
+// The public calls, RULES 4: any words, slots, keys and ranges may come in. Each call tests the
+// arena and then does what the table says.
 use answers::EntryAnswer;
 use answers::NumberAnswer;
 use answers::Refusal;

@@ -1,4 +1,5 @@
--- What the test answers: "The soundness test answers yes exactly when the arena is sound, otherwise no, and writes nothing."
+-- What the test answers. RULES 4.40: "yes is its answer exactly for a sound arena, and no for any
+-- other."
 use mathlib.Core.List.{List}
 use Prim.Native.Nat.{ℕ}
 use Rattle.words.specs.Sound as sound

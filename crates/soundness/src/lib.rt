@@ -1,4 +1,5 @@
-// The soundness test of document 01: yes exactly when the arena is sound, and then how many nodes are free. It writes nothing.
+// The soundness test, RULES 4.40: yes exactly when the arena is sound, and then how many nodes are
+// free. It writes nothing.
 pub mod packed;
 pub mod settling;
 
@@ -27,7 +28,8 @@ pub enum Tested {
     Unsound,
 }
 
-// Tests an arena within its limits, on scratch that is large enough. The memo is all 0 at first: it has the names met, then the summaries.
+// Tests an arena within its limits, on scratch that is large enough. The memo is all 0 at first: it
+// has the names met, then the summaries.
 fn test_on(ws: &[u32], memo: &mut [u32], ends: &mut [u32], queue: &mut [u32]) -> Tested
     requires { ⌜ Scratch (now ws) (now memo) (now ends) (now queue) ⌝ }
     ensures { λ r. ⌜ Verdict (now (ws .entry)) r ⌝ }
@@ -76,8 +78,9 @@ fn test_large(ws: &[u32]) -> Tested
     test_on(ws, &mut memo, &mut ends, &mut queue)
 }
 
-// Tests an arena on the least scratch that is large enough, from this tier on. Into a function that calls
-// itself the compiler inlines no large frame, so a small arena never pays for a large one's scratch.
+// Tests an arena on the least scratch that is large enough, from this tier on. Into a function that
+// calls itself the compiler inlines no large frame, so a small arena never pays for a large one's
+// scratch.
 fn test_from(ws: &[u32], tier: u32) -> Tested
     requires { ⌜ Within (now ws) ⌝ }
     ensures { λ r. ⌜ Verdict (now (ws .entry)) r ⌝ }

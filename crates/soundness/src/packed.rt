@@ -1,5 +1,5 @@
-// The scratch of the test: for each link a word, `blacks` * SHAPE + `color` * DARK + `size`, and the keys at the two ends of its tree.
-// `blacks` is one more than the black nodes on each way down.
+// The scratch of the test: for each link a word, `blacks` * SHAPE + `color` * DARK + `size`, and
+// the keys at the two ends of its tree. `blacks` is one more than the black nodes on each way down.
 ghost use mathlib.Core.Path.{_≡_};
 ghost use Prim.Native.Nat.{_<_};
 ghost use lib.ListN.{length, getD};

@@ -1,4 +1,5 @@
-// The second half of the soundness test: the summary of every node in the queue, children first, and the slots.
+// The second half of the soundness test: the summary of every node in the queue, children first,
+// and the slots.
 ghost use Prim.Native.Nat.{_*_, _-_, _≤_, _<_};
 ghost use lib.ListN.{getD};
 ghost use Rattle.words.specs.Layout.{nodes, slots};
@@ -21,7 +22,8 @@ use arena::slot_root;
 use arena::slot_size;
 use arena::slots_of;
 
-// Notes node i of this word, key and least key, if its key is below the keys of the tree at x, its right link.
+// Notes node i of this word, key and least key, if its key is below the keys of the tree at x, its
+// right link.
 fn settle_right(
     memo: &mut [u32],
     ends: &mut [u32],
@@ -164,7 +166,8 @@ fn slots_right(ws: &[u32], memo: &[u32], ends: &[u32]) -> bool
     true
 }
 
-// Whether each held slot has the tree of a version and its size, the live nodes being queued: so whether the arena is sound.
+// Whether each held slot has the tree of a version and its size, the live nodes being queued: so
+// whether the arena is sound.
 pub fn trees_right(ws: &[u32], queue: &[u32], live: u32, memo: &mut [u32], ends: &mut [u32]) -> bool
     requires { ⌜ Whole (now ws) (now queue) live × Room (now ws) (now memo) (now ends) ⌝ }
     ensures { λ r. ⌜ Answers r (SoundWith (now (ws .entry)) (nodes (now (ws .entry)) - live)) (Sound (now (ws .entry)) → ⊥) ⌝ }

@@ -1,6 +1,7 @@
 // The arenas that are tested, word by word as docs/LAYOUT.md has them.
 
-// Two versions of seven nodes: 10, 20, 30 in slot 0, and the same with 40 in slot 1, which shares node 1. Node 7 is free, slot 2 not held.
+// Two versions of seven nodes: 10, 20, 30 in slot 0, and the same with 40 in slot 1, which shares
+// node 1. Node 7 is free, slot 2 not held.
 pub const BASE: [u32; 56] = [
     7,
     3,

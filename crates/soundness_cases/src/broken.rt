@@ -1,6 +1,8 @@
-// What is changed in the arena BASE to break one thing each, with the verdict that document 01 asks for.
+// What is changed in the arena BASE to break one thing each, with the verdict that RULES 3 asks
+// for.
 
-// Up to five words of it, each by its number and its new value; 56, which is beyond the last, stands where no more is changed.
+// Up to five words of it, each by its number and its new value; 56, which is beyond the last,
+// stands where no more is changed.
 pub const CHANGES: usize = 34;
 
 pub const CHANGED: [u32; 340] = [

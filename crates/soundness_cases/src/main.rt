@@ -1,5 +1,6 @@
-// Runs the soundness test on arenas built by hand, each bullet of document 01 broken one at a time, and writes each verdict on a line.
-// The expected lines are read off document 01, beside each case in `arenas` and `broken`.
+// Runs the soundness test on arenas built by hand, each rule of RULES 3 broken one at a time, and
+// writes each verdict on a line. The expected lines are read off the rules, beside each case in
+// `arenas` and `broken`.
 mod arenas;
 mod broken;
 

@@ -45,7 +45,8 @@ sum-front f a zero n h = omega arith
 sum-front f a (suc m) zero h = absurd (omega arith)
 sum-front f a (suc m) (suc n) h = omega (arith, sum-front f (suc a) m n (omega arith))
 
--- Two sums that make 1 at each number make n together; where they make 1 at most, and n together, they make 1 at each.
+-- Two sums that make 1 at each number make n together; where they make 1 at most, and n together,
+-- they make 1 at each.
 pub sum-ones : (f g : ℕ → ℕ) (a n : ℕ) → ((j : ℕ) → a ≤ j → j < a + n → f j + g j ≡ 1) → sum f a n + sum g a n ≡ n
 unfolding sum
 sum-ones f g a zero h = omega arith

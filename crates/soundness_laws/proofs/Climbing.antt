@@ -1,4 +1,5 @@
--- In a sound arena every live node gets into the queue: one that did not would have a parent that did not, whose tree is higher.
+-- In a sound arena every live node gets into the queue: one that did not would have a parent that
+-- did not, whose tree is higher.
 use mathlib.Core.Path.{_≡_}
 use mathlib.Core.Logic.{_⊎_, inl, inr}
 use mathlib.Core.List.{List, []}

@@ -1,4 +1,5 @@
--- Two trees under a node: the whole is good exactly when the summaries fit, and its summary is the joined one.
+-- Two trees under a node: the whole is good exactly when the summaries fit, and its summary is the
+-- joined one.
 use mathlib.Core.Path.{_≡_, refl, ap, sym, _∙_}
 use mathlib.Core.Bool.{Bool, true, false}
 use Prim.Native.Nat.{ℕ, suc, _+_, _≤_}

@@ -1,4 +1,5 @@
--- Settling a node both children of which are known: its tree is good exactly when the two summaries fit, and then it is known.
+-- Settling a node both children of which are known: its tree is good exactly when the two summaries
+-- fit, and then it is known.
 use mathlib.Core.Path.{_≡_, refl, ap, sym, _∙_}
 use mathlib.Core.Bool.{Bool, true, false, not}
 use mathlib.Core.List.{List}
@@ -56,7 +57,8 @@ some-size ws B x K h = go (K .tree) (K .holds) (K .tells)
     go leaf r T = absurd (omega arith)
     go (node p c l e r') r T = omega (arith, T .size-is)
 
--- c, k, x, y: the colour, the key and the links of node i, as they were read; l, r: the words of the two links.
+-- c, k, x, y: the colour, the key and the links of node i, as they were read; l, r: the words of
+-- the two links.
 module _ (ws memo ends : List ℕ) (i : ℕ) (q : Settle ws (briefs memo ends) i) (c k x y : ℕ) (cis : c ≡ color ws i) (kis : k ≡ entry ws i .key)
     (xis : x ≡ left ws i) (yis : y ≡ right ws i) (l r : ℕ) (el : l ≡ getD memo x 0) (er : r ≡ getD memo y 0) where
   abbrev B : ℕ → Brief

@@ -15,7 +15,8 @@ stopping ws t P P' a e = record { on = λ g. absurd (g refl); stop = λ _. a .st
 pub going : (ws : List ℕ) (t : ℕ) (P : Type 0) → nodes ws < stopped → t ≤ nodes ws → P → Onward ws t P
 going ws t P n h p = record { on = λ _. p; stop = λ e. absurd (omega arith) }
 
--- The roots of the first s of v slots have been met, in scratch that was names₀ and queue₀ at first.
+-- The roots of the first s of v slots have been met, in scratch that was names₀ and queue₀ at
+-- first.
 pub record RootsTo (ws names₀ queue₀ : List ℕ) (v s : ℕ) (names queue : List ℕ) (tail : ℕ) : Type 0 where
   pub v-is : v ≡ slots ws
   pub roots : Roots ws s names queue tail

@@ -22,7 +22,8 @@ pub record Noted (B B' : ℕ → Brief) (i : ℕ) (s : Brief) : Type 0 where
   pub here : B' i ≡ s
   pub other : (x : ℕ) → (x ≡ i → ⊥) → B' x ≡ B x
 
--- What it asks to settle node i; and what that gives: it is known too, or no tree that can be a part of a version stands there.
+-- What it asks to settle node i; and what that gives: it is known too, or no tree that can be a
+-- part of a version stands there.
 pub record Settle (ws : List ℕ) (B : ℕ → Brief) (i : ℕ) : Type 0 where
   pub within : Within ws
   pub low : 1 ≤ i

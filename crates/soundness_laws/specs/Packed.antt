@@ -1,4 +1,5 @@
--- The scratch of the test: for each link a word with three numbers of its summary, and two words with the keys at its ends.
+-- The scratch of the test: for each link a word with three numbers of its summary, and two words
+-- with the keys at its ends.
 use mathlib.Core.Path.{_≡_}
 use mathlib.Core.List.{List}
 use Prim.Native.Nat.{ℕ, _+_, _*_, _/_, _%_, _≤_, _<_}
@@ -33,7 +34,8 @@ pub record Packable (b : Brief) : Type 0 where
   pub size-low : b .size < dark
   pub color-low : b .color ≤ 1
 
--- "each colour met is red or black"; "no red node has a red child"; "all ways .. pass equally many black nodes": of the words l and r of two trees.
+-- RULES 3.2, "the colour of each node so met is red or black", and 3.5: of a colour and the words l
+-- and r of the two trees below it.
 pub record ShapesFit (c l r : ℕ) : Type 0 where
   pub known : c ≤ code black
   pub even : l / shape ≡ r / shape
@@ -49,7 +51,8 @@ pub record Wordable (c l r : ℕ) : Type 0 where
   pub blacks-low : l / shape < 255
   pub size-low : l % dark + r % dark + 1 < dark
 
--- "keys are strictly ascending in listing order": the trees at the links x and y to the left and right of the key k.
+-- RULES 3.4: "each key is above the one before it", of the trees at the links x and y to the left
+-- and to the right of the key k.
 pub record KeysApart (ends : List ℕ) (x k y : ℕ) : Type 0 where
   pub after : 1 ≤ x → getD ends (2 * x + 1) 0 < k
   pub before : 1 ≤ y → k < getD ends (2 * y) 0

@@ -1,4 +1,5 @@
--- The queue: a node enters it when as many names of it were met as its count says, so after all that name it.
+-- The queue: a node enters it when as many names of it were met as its count says, so after all
+-- that name it.
 use mathlib.Core.Path.{_≡_}
 use mathlib.Core.List.{List, [], map}
 use Prim.Native.Nat.{ℕ, suc, _+_, _≤_, _<_}
@@ -15,7 +16,8 @@ use Rattle.soundness_laws.specs.Ways.{Ways}
 pub record Blank (xs : List ℕ) : Type 0 where
   pub zeros : (x : ℕ) → getD xs x 0 ≡ 0
 
--- What the test starts from: an arena within its limits, and scratch for each link in which no name is noted.
+-- What the test starts from: an arena within its limits, and scratch for each link in which no name
+-- is noted.
 pub record Fresh (ws names queue : List ℕ) : Type 0 where
   pub within : Within ws
   pub room : nodes ws < length names
@@ -30,7 +32,8 @@ bumping names x = set names x (getD names x 0 + 1)
 unfoldable pub met : List ℕ → ℕ → List ℕ → ℕ → ℕ
 met ws s P x = occ x (map (left ws) P) + occ x (map (right ws) P) + sum (held (nodes ws) ws x) 0 s
 
--- Where f x names of each node x were met, none has more than its count, and Q has those that have all of theirs, each once.
+-- Where f x names of each node x were met, none has more than its count, and Q has those that have
+-- all of theirs, each once.
 pub record Full (ws : List ℕ) (f : ℕ → ℕ) (Q : List ℕ) : Type 0 where
   pub low : (x : ℕ) → 1 ≤ x → x ≤ nodes ws → f x ≤ count ws x
   pub inside : (x : ℕ) → 1 ≤ occ x Q → (1 ≤ x) × (x ≤ nodes ws)

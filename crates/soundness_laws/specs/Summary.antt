@@ -8,7 +8,8 @@ use Rattle.trees.specs.Listing.{Ascending}
 use Rattle.trees.specs.Shape.{Rb}
 use Rattle.words.specs.Layout.{code}
 
--- The words of a summary. `blacks` is one more than the black nodes on each way down, so that 0 says: nothing noted.
+-- The words of a summary. `blacks` is one more than the black nodes on each way down, so that 0
+-- says: nothing noted.
 pub record Brief : Type 0 where
   pub blacks : ℕ
   pub size : ℕ
@@ -52,13 +53,14 @@ pub record Tells (b : Brief) (t : Tree) : Type 0 where
 abbrev pub emptyBrief : Brief
 emptyBrief = record { blacks = 1; size = 0; least = 0; greatest = 0; color = code black }
 
--- "each colour met is red or black"; "no red node has a red child"
+-- RULES 3.2: "the colour of each node so met is red or black"; 3.5: "A child of a red node is never
+-- red."
 pub record ColorsFit (c : ℕ) (l r : Brief) : Type 0 where
   pub known : c ≤ code black
   pub left : c ≡ code red → l .color ≡ code red → ⊥
   pub right : c ≡ code red → r .color ≡ code red → ⊥
 
--- "keys are strictly ascending in listing order"
+-- RULES 3.4: "each key is above the one before it"
 pub record KeysFit (l : Brief) (k : ℕ) (r : Brief) : Type 0 where
   pub after : 1 ≤ l .size → l .greatest < k
   pub before : 1 ≤ r .size → k < r .least
@@ -66,11 +68,13 @@ pub record KeysFit (l : Brief) (k : ℕ) (r : Brief) : Type 0 where
 -- A node of colour c and key k may stand above two trees with the summaries l and r.
 pub record Fits (c k : ℕ) (l r : Brief) : Type 0 where
   pub colors : ColorsFit c l r
-  -- "all ways from a root to a missing child pass equally many black nodes"
+  -- RULES 3.5: "Every way from the root down to a missing child meets the same number of black
+  -- nodes."
   pub even : l .blacks ≡ r .blacks
   pub keys : KeysFit l k r
 
--- The key at one end of a tree, where the subtree on that side has this size and this key at its end, and the node has key k.
+-- The key at one end of a tree, where the subtree on that side has this size and this key at its
+-- end, and the node has key k.
 pub record Outermost (size end k x : ℕ) : Type 0 where
   pub none : size ≡ 0 → x ≡ k
   pub some : 1 ≤ size → x ≡ end

@@ -29,7 +29,8 @@ pub record Whole (ws queue : List ℕ) (tail : ℕ) : Type 0 where
   pub frees : (x : ℕ) → 1 ≤ x → x ≤ nodes ws → occ x free ≡ idle (count ws x)
   pub rest : length free + tail ≡ nodes ws
 
--- Slot s is not held, with size 0, or has the tree of a version and its size; and so has every slot.
+-- Slot s is not held, with size 0, or has the tree of a version and its size; and so has every
+-- slot.
 pub record SlotRight (ws : List ℕ) (s : ℕ) : Type 0 where
   pub version : Version Sized (nodes ws) ws s
 

@@ -5,7 +5,8 @@ use lib.ListN.{length}
 use Rattle.words.specs.Layout.{nodes, slots, nodeWords, headerWords}
 use Rattle.words.specs.Sound.{Limits}
 
--- "the N and V it records are within their limits and agree with its length"
+-- RULES 3.1: "The N and V in words 0 and 1 keep to 2.7, and the slice has the length that 2.8 gives
+-- them."
 abbrev pub Within : List ℕ → Type 0
 Within ws = Limits (nodes ws) (slots ws) (length ws)
 
