@@ -58,7 +58,7 @@ pub fn get(ws: &[u32], i: u32, key: u32) -> Found
 }
 
 // What was found further on, or else e.
-pub fn or_else(f: Found, e: Entry) -> Found
+fn or_else(f: Found, e: Entry) -> Found
     ensures { λ r. ⌜ foundOf r ≡ orElse (foundOf f) (entryOf e) ⌝ }
 {
     match f {

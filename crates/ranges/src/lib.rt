@@ -2,7 +2,6 @@
 use arena::MAX_HEIGHT;
 use arena::node_at;
 use lookup::Found;
-use lookup::or_else;
 ghost use mathlib.Core.Path.{_≡_};
 ghost use Rattle.words.specs.Layout.{maxHeight};
 ghost use Rattle.trees.specs.Range.{fromStart, toEnd, past, afterFront, beforeBack, front as atFront, back as atBack};
@@ -83,40 +82,53 @@ fn before_back(w: Range, key: u32) -> bool
     to_end(past_last(last), key)
 }
 
-// The least entry that the front has not passed: `dig_towards`.
-fn least(ws: &[u32], i: u32, w: Range, h: u32) -> Found
-    requires { ⌜ Rooted (now ws) i h ⌝ }
+// The least entry that the front has not passed: `dig_towards`. The remaining height h is only what
+// falls: no instruction is made of it.
+fn least(ws: &[u32], i: u32, w: Range) -> Found
+    requires { ⌜ Rooted (now ws) i maxHeight ⌝ }
     ensures { λ r. ⌜ Finds (now (ws .entry)) i r (leastOf (afterFront (rangeOf w))) ⌝ }
 {
-    if i == 0 {
-        return Found::Nothing;
+    let mut at = i;
+    let mut h = MAX_HEIGHT;
+    let mut lowest = Found::Nothing;
+    while at != 0 {
+        let d = node_at(ws, at);
+        let e = d.entry;
+        let nearer = d.left;
+        let further = d.right;
+        if after_front(w, e.key) {
+            lowest = Found::At(e);
+            at = nearer;
+        } else {
+            at = further;
+        }
+        h -= 1;
     }
-    let d = node_at(ws, i);
-    let e = d.entry;
-    if after_front(w, e.key) {
-        let l = least(ws, d.left, w, h - 1);
-        or_else(l, e)
-    } else {
-        least(ws, d.right, w, h - 1)
-    }
+    lowest
 }
 
 // The greatest entry that the back has not passed.
-fn greatest(ws: &[u32], i: u32, w: Range, h: u32) -> Found
-    requires { ⌜ Rooted (now ws) i h ⌝ }
+fn greatest(ws: &[u32], i: u32, w: Range) -> Found
+    requires { ⌜ Rooted (now ws) i maxHeight ⌝ }
     ensures { λ r. ⌜ Finds (now (ws .entry)) i r (greatestOf (beforeBack (rangeOf w))) ⌝ }
 {
-    if i == 0 {
-        return Found::Nothing;
+    let mut at = i;
+    let mut h = MAX_HEIGHT;
+    let mut highest = Found::Nothing;
+    while at != 0 {
+        let d = node_at(ws, at);
+        let e = d.entry;
+        let nearer = d.right;
+        let further = d.left;
+        if before_back(w, e.key) {
+            highest = Found::At(e);
+            at = nearer;
+        } else {
+            at = further;
+        }
+        h -= 1;
     }
-    let d = node_at(ws, i);
-    let e = d.entry;
-    if before_back(w, e.key) {
-        let r = greatest(ws, d.right, w, h - 1);
-        or_else(r, e)
-    } else {
-        greatest(ws, d.left, w, h - 1)
-    }
+    highest
 }
 
 // A front step: the least entry left, unless it has passed the back.
@@ -124,7 +136,7 @@ pub fn step_front(ws: &[u32], i: u32, w: Range) -> Found
     requires { ⌜ Rooted (now ws) i maxHeight ⌝ }
     ensures { λ r. ⌜ Finds (now (ws .entry)) i r (stepOf atFront (rangeOf w)) ⌝ }
 {
-    let Found::At(e) = least(ws, i, w, MAX_HEIGHT) else {
+    let Found::At(e) = least(ws, i, w) else {
         return Found::Nothing;
     };
     if before_back(w, e.key) {
@@ -139,7 +151,7 @@ pub fn step_back(ws: &[u32], i: u32, w: Range) -> Found
     requires { ⌜ Rooted (now ws) i maxHeight ⌝ }
     ensures { λ r. ⌜ Finds (now (ws .entry)) i r (stepOf atBack (rangeOf w)) ⌝ }
 {
-    let Found::At(e) = greatest(ws, i, w, MAX_HEIGHT) else {
+    let Found::At(e) = greatest(ws, i, w) else {
         return Found::Nothing;
     };
     if after_front(w, e.key) {

@@ -1,12 +1,13 @@
 use borrow.Author.Needs.{needs}
 use Rattle.trees.specs.Lookup.{get}
+use Rattle.lookup.specs.declared.Found.the-variants.{Nothing}
 use Rattle.lookup.proofs.Descents.{rooted-inside, rooted-high, lower}
 use Rattle.lookup.proofs.Leading.{Leads, leads-start, get-end, get-found, get-childless, get-side}
 use Rattle.lookup.proofs.get.Statement.{statement}
 use Rattle.lookup.proofs.get.Tie as tie
 
 abbrev Inv-loop : tie.InvT-loop
-Inv-loop ws i key at₀ h₀ at h = Leads (get key) ws i at h
+Inv-loop ws i key at₀ h₀ at h = Leads (get key) ws i at h Nothing
 
 abbrev μ-loop : tie.MeasureT-loop
 μ-loop ws i key at₀ h₀ at h = h
