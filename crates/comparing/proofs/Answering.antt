@@ -14,15 +14,15 @@ use Rattle.words.proofs.Counts.{same-eq}
 use Rattle.calls.specs.Call as call
 use Rattle.calls.specs.Outcome.{Outcome}
 use Rattle.calls.specs.Version.{VersionIs}
-use Rattle.calls.proofs.Versions.{version-of, version-fine}
+use Rattle.calls.proofs.Versions.{version-of}
 use Rattle.calls.proofs.ReadingOutcomes.{compare-outcome, equal-outcome}
 use Rattle.answers.specs.declared.Refusal.{Refusal}
 use Rattle.answers.specs.declared.Entered.{Entered}
 use Rattle.answers.specs.declared.Sign.{Sign}
 use Rattle.answers.specs.Answers.{refusalOf, signOf}
 use Rattle.answers.specs.Entering.{Enters}
-use Rattle.answers.proofs.Entries.{root-of, rooted, version-refused, named-first}
-use Rattle.comparing.specs.Pairs.{Ordered, Compares}
+use Rattle.answers.proofs.Entries.{root-of, version-refused, named-first}
+use Rattle.comparing.specs.Ranks.{Compares}
 
 -- A slot that the call names second.
 named-second : (s t : ℕ) → 1 ≤ occ t (s ∷ (t ∷ []))
@@ -49,15 +49,6 @@ module _ {ws : List ℕ} {s : ℕ} {x : Entered} (S : Sound ws) (g : Enters ws s
 
     root-reads : Reads (nodes ws) ws i (S .trees .tree s (root-of S g e .0))
     root-reads = subst (λ (k : ℕ). Reads (nodes ws) ws k (S .trees .tree s (root-of S g e .0))) (sym (root-of S g e .1)) (version .reads)
-
-    pub ordered : Ordered ws i
-    ordered =
-        record {
-          rooted = rooted S g e;
-          tree = S .trees .tree s (root-of S g e .0);
-          reads = root-reads;
-          ordered = version-fine S version .ordered;
-        }
 
 module _ {ws : List ℕ} {s q : ℕ} {x y : Entered} {i j : ℕ} {d : Sign} (S : Sound ws) (g : Enters ws s x) (e : x ≡ Entered.Root i)
     (h : Enters ws q y) (f : y ≡ Entered.Root j) (C : Compares ws i j d) where

@@ -1,4 +1,2 @@
-pub mod Rests
-pub mod Pairing
-pub mod Walking
+pub mod Ordering
 pub mod Answering

@@ -1,4 +1,7 @@
-// Document 01's compare and equal, on a sound arena: both versions are walked from the front, and the first differing pair decides.
+// Document 01's compare and equal, on a sound arena: both versions are walked side by side, and where
+// they part the next entries decide.
+use abreast::Heads;
+use abreast::part;
 use answers::Entered;
 use answers::Sign;
 use answers::SignAnswer;
@@ -6,12 +9,7 @@ use answers::TruthAnswer;
 use answers::enter;
 use arena::Entry;
 use lookup::Found;
-use ranges::Bound;
-use ranges::LastKey;
-use ranges::Range;
-use ranges::step_front;
 ghost use mathlib.Core.Path.{_≡_};
-ghost use mathlib.Core.Option.{some};
 ghost use Rattle.words.specs.Layout.{maxHeight};
 ghost use Rattle.words.specs.Sound.{Sound};
 ghost use Rattle.trees.specs.Order.{compareNumbers, compareEntries, isSame};
@@ -20,13 +18,7 @@ ghost use Rattle.arena.specs.Nodes.{entryOf};
 ghost use Rattle.calls.specs.Call.{Call};
 ghost use Rattle.calls.specs.Outcome.{Outcome};
 ghost use Rattle.answers.specs.Answers.{signOf, signAnswer, truthAnswer};
-ghost use Rattle.comparing.specs.Pairs.{Paired, Paces, Ordered, Compares};
-
-// What the next entries of both say: they are equal, with this key, or the order is decided.
-pub enum Pair {
-    Alike(u32),
-    Decided(Sign),
-}
+ghost use Rattle.comparing.specs.Ranks.{rank, Compares};
 
 fn order(a: u32, b: u32) -> Sign
     ensures { λ r. ⌜ signOf r ≡ compareNumbers a b ⌝ }
@@ -51,68 +43,32 @@ fn order_entries(x: Entry, y: Entry) -> Sign
     }
 }
 
-// Where both have a next entry.
-fn both(x: Entry, y: Entry) -> Pair
-    ensures { λ r. ⌜ Paired (some (entryOf x)) (some (entryOf y)) r ⌝ }
+// The order of two listings, from where they part. A proper beginning of the other is less.
+fn order_heads(h: Heads) -> Sign
+    ensures { λ r. ⌜ signOf r ≡ rank (foundOf (h .one)) (foundOf (h .other)) ⌝ }
 {
-    match order_entries(x, y) {
-        Sign::Less => Pair::Decided(Sign::Less),
-        Sign::Same => Pair::Alike(x.key),
-        Sign::More => Pair::Decided(Sign::More),
-    }
-}
-
-// A listing that is a proper beginning of the other is less.
-fn pair_of(a: Found, b: Found) -> Pair
-    ensures { λ r. ⌜ Paired (foundOf a) (foundOf b) r ⌝ }
-{
-    match a {
-        Found::Nothing => match b {
-            Found::Nothing => Pair::Decided(Sign::Same),
-            Found::At(_) => Pair::Decided(Sign::Less),
+    let one = h.one;
+    let other = h.other;
+    match one {
+        Found::Nothing => match other {
+            Found::Nothing => Sign::Same,
+            Found::At(_) => Sign::Less,
         },
-        Found::At(x) => match b {
-            Found::Nothing => Pair::Decided(Sign::More),
-            Found::At(y) => both(x, y),
+        Found::At(x) => match other {
+            Found::Nothing => Sign::More,
+            Found::At(y) => order_entries(x, y),
         },
     }
 }
 
-// The pair that follows the last key given.
-fn next_pair(ws: &[u32], i: u32, j: u32, last: LastKey) -> Pair
+// The order of two versions, by their roots.
+fn compare_roots(ws: &[u32], i: u32, j: u32) -> Sign
     requires { ⌜ Rooted (now ws) i maxHeight ⌝ }
     requires { ⌜ Rooted (now ws) j maxHeight ⌝ }
-    ensures { λ r. ⌜ Paces (now (ws .entry)) i j last r ⌝ }
-{
-    let w = Range {
-        start: Bound::Unbounded,
-        end: Bound::Unbounded,
-        front: last,
-        back: LastKey::NotGiven,
-    };
-    let a = step_front(ws, i, w);
-    let b = step_front(ws, j, w);
-    pair_of(a, b)
-}
-
-// The order of two versions, by their roots: one root holds one tree, so two equal roots need no walk.
-fn compare_roots(ws: &[u32], i: u32, j: u32) -> Sign
-    requires { ⌜ Ordered (now ws) i ⌝ }
-    requires { ⌜ Ordered (now ws) j ⌝ }
     ensures { λ r. ⌜ Compares (now (ws .entry)) i j r ⌝ }
 {
-    if i == j {
-        return Sign::Same;
-    }
-    let mut last = LastKey::NotGiven;
-    loop {
-        match next_pair(ws, i, j, last) {
-            Pair::Decided(d) => return d,
-            Pair::Alike(k) => {
-                last = LastKey::Given(k);
-            },
-        }
-    }
+    let h = part(ws, i, j);
+    order_heads(h)
 }
 
 fn is_same(d: Sign) -> bool

@@ -2,7 +2,7 @@
 use Prim.Native.Nat.{ℕ}
 use mathlib.Core.Path.{_≡_, refl, sym, ap, _∙_}
 use mathlib.Core.Bool.{true, false, true≢false}
-use mathlib.Core.List.{List, [], _∷_}
+use mathlib.Core.List.{List, [], _∷_, _++_, append-nil}
 use native.Mathlib.Omega.{arith}
 use borrow.Author.Tests.{lt-ltb, le-ltb}
 use Rattle.heights.proofs.Choices.{compared}
@@ -42,6 +42,12 @@ then-opposite less t = refl
 then-opposite same t = refl
 then-opposite more t = refl
 
+-- What is not the same decides.
+pub then-decided : (s t : Sign) → isSame s ≡ false → s andThen t ≡ s
+then-decided less t h = refl
+then-decided same t h = absurd (true≢false h)
+then-decided more t h = refl
+
 then-same : (s t : Sign) → isSame (s andThen t) ≡ true → (isSame s ≡ true) × (isSame t ≡ true)
 then-same less t h = absurd (true≢false (sym h))
 then-same same t h = (refl, h)
@@ -57,13 +63,22 @@ compare-opposite (e ∷ xs) (f ∷ ys) =
     (ap (λ (s : Sign). s andThen opposite (compare xs ys)) (then-opposite (compareNumbers (e .key) (f .key)) (compareNumbers (e .value) (f .value))) ∙
     then-opposite (compareEntries e f) (compare xs ys))
 
+-- What both begin with alike decides nothing.
+pub compare-front : (zs xs ys : List Entry) → compare (zs ++ xs) (zs ++ ys) ≡ compare xs ys
+compare-front [] xs ys = refl
+compare-front (e ∷ zs) xs ys = rw (numbers-self (e .key), numbers-self (e .value)) (compare-front zs xs ys)
+
 pub compare-self : (xs : List Entry) → compare xs xs ≡ same
-compare-self [] = refl
-compare-self (e ∷ xs) = rw (numbers-self (e .key), numbers-self (e .value)) (compare-self xs)
+compare-self xs = sym (ap (λ (l : List Entry). compare l l) (append-nil xs)) ∙ compare-front xs [] []
 
 entry-equal : (e f : Entry) → e .key ≡ f .key → e .value ≡ f .value → e ≡ f
 entry-equal e f k v =
     ap (λ (a : ℕ). record { key = a; value = e .value }) k ∙ ap (λ (b : ℕ). record { key = f .key; value = b }) v
+
+pub entries-equal : (e f : Entry) → isSame (compareEntries e f) ≡ true → e ≡ f
+entries-equal e f h =
+    let a = then-same (compareNumbers (e .key) (f .key)) (compareNumbers (e .value) (f .value)) h in
+    entry-equal e f (numbers-equal (e .key) (f .key) (a .0)) (numbers-equal (e .value) (f .value) (a .1))
 
 -- "Equal means compare 0", and compare 0 means the same entries.
 pub equal-is : (xs ys : List Entry) → equal xs ys ≡ true → xs ≡ ys
@@ -72,8 +87,7 @@ equal-is [] (f ∷ ys) h = absurd (true≢false (sym h))
 equal-is (e ∷ xs) [] h = absurd (true≢false (sym h))
 equal-is (e ∷ xs) (f ∷ ys) h =
     let a = then-same (compareEntries e f) (compare xs ys) h in
-    let b = then-same (compareNumbers (e .key) (f .key)) (compareNumbers (e .value) (f .value)) (a .0) in
-    let h = entry-equal e f (numbers-equal (e .key) (f .key) (b .0)) (numbers-equal (e .value) (f .value) (b .1)) in
+    let h = entries-equal e f (a .0) in
     let t = equal-is xs ys (a .1) in
     cc
 

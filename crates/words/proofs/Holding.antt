@@ -87,18 +87,21 @@ code-same red black e = absurd (omega arith)
 code-same black red e = absurd (omega arith)
 code-same black black e = refl
 
--- The words hold one tree at most at a link.
-pub reads-same : (n : ℕ) (ws : List ℕ) (i : ℕ) (t u : Tree) → Reads n ws i t → Reads n ws i u → t ≡ u
-reads-same n ws i leaf leaf p q = refl
-reads-same n ws i leaf (node q c l e r) a b = absurd (let z = b .1 .low in omega arith)
-reads-same n ws i (node q c l e r) leaf a b = absurd (let z = a .1 .low in omega arith)
-reads-same n ws i (node p c l e r) (node p' c' l' e' r') a b =
+-- The words hold one tree at most at a link, however many nodes they are read for.
+pub reads-one : (n m : ℕ) (ws : List ℕ) (i : ℕ) (t u : Tree) → Reads n ws i t → Reads m ws i u → t ≡ u
+reads-one n m ws i leaf leaf p q = refl
+reads-one n m ws i leaf (node q c l e r) a b = absurd (let z = b .1 .low in omega arith)
+reads-one n m ws i (node q c l e r) leaf a b = absurd (let z = a .1 .low in omega arith)
+reads-one n m ws i (node p c l e r) (node p' c' l' e' r') a b =
     let ep : p ≡ p' = a .0 ∙ sym (b .0) in
     let ec : c ≡ c' = code-same c c' (sym (a .1 .color-is) ∙ b .1 .color-is) in
     let ee : e ≡ e' = sym (a .1 .entry-is) ∙ b .1 .entry-is in
-    let el = reads-same n ws (left ws i) l l' (a .2) (b .2) in
-    let er = reads-same n ws (right ws i) r r' (a .3) (b .3) in
+    let el = reads-one n m ws (left ws i) l l' (a .2) (b .2) in
+    let er = reads-one n m ws (right ws i) r r' (a .3) (b .3) in
     cc
+
+pub reads-same : (n : ℕ) (ws : List ℕ) (i : ℕ) (t u : Tree) → Reads n ws i t → Reads n ws i u → t ≡ u
+reads-same n = reads-one n n
 
 -- A child's tree is lower than its parent's.
 module _ (n : ℕ) (ws : List ℕ) (j : ℕ) where

@@ -1,5 +1,6 @@
 use borrow.Author.Needs.{needs}
-use Rattle.comparing.proofs.Answering.{ordered, compare-refused, compare-other-refused, compare-told}
+use Rattle.answers.proofs.Entries.{rooted}
+use Rattle.comparing.proofs.Answering.{compare-refused, compare-other-refused, compare-told}
 use Rattle.comparing.proofs.compare.Statement.{statement}
 use Rattle.comparing.proofs.compare.Tie as tie
 
@@ -13,7 +14,7 @@ compare-spec =
     (λ c κs. search needs)
     (λ c. search needs)
     (λ c. search needs)
-    (λ c κs. search ordered)
+    (λ c κs. search rooted)
     (λ c. search compare-refused)
     (λ c. search compare-other-refused)
     (λ c. search compare-told))

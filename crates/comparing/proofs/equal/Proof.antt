@@ -1,5 +1,6 @@
 use borrow.Author.Needs.{needs}
-use Rattle.comparing.proofs.Answering.{ordered, equal-refused, equal-other-refused, equal-told}
+use Rattle.answers.proofs.Entries.{rooted}
+use Rattle.comparing.proofs.Answering.{equal-refused, equal-other-refused, equal-told}
 use Rattle.comparing.proofs.equal.Statement.{statement}
 use Rattle.comparing.proofs.equal.Tie as tie
 
@@ -13,7 +14,7 @@ equal-spec =
     (λ c κs. search needs)
     (λ c. search needs)
     (λ c. search needs)
-    (λ c κs. search ordered)
+    (λ c κs. search rooted)
     (λ c κs. search needs)
     (λ c. search equal-refused)
     (λ c. search equal-other-refused)

@@ -1,4 +1,4 @@
-use Rattle.comparing.proofs.Pairing.{order-less, order-more, order-same}
+use Rattle.comparing.proofs.Ordering.{order-less, order-more, order-same}
 use Rattle.comparing.proofs.order.Statement.{statement}
 use Rattle.comparing.proofs.order.Tie as tie
 

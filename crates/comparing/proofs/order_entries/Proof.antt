@@ -1,5 +1,5 @@
 use borrow.Author.Needs.{needs}
-use Rattle.comparing.proofs.Pairing.{entries-less, entries-same, entries-more}
+use Rattle.comparing.proofs.Ordering.{entries-less, entries-same, entries-more}
 use Rattle.comparing.proofs.order_entries.Statement.{statement}
 use Rattle.comparing.proofs.order_entries.Tie as tie
 
