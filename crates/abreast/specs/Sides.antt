@@ -16,7 +16,7 @@ use Rattle.abreast.specs.declared.Depths.{Depths}
 use Rattle.abreast.specs.declared.Heads.{Heads}
 use Rattle.abreast.specs.Alike.{alikeHeads}
 
--- "a fixed stack of at most 23 numbers"
+-- RULES 13.5: "a fixed stack of no more than 23 numbers"
 abbrev pub stackNumbers : ℕ
 stackNumbers = suc maxHeight
 

@@ -14,7 +14,7 @@ ghost use Rattle.arena.specs.Nodes.{entryOf};
 ghost use Rattle.abreast.specs.Alike.{alikeEntries, alikeHeads};
 ghost use Rattle.abreast.specs.Sides.{ahead, Stacked, Topped, Stands, Sinks, Tops, Pops, Meets, Parts, PartsBelow};
 
-// Document 01's "at most 23 numbers": one more than the nodes on the longest way down.
+// RULES 13.5: "no more than 23 numbers", which is one more than the nodes on the longest way down.
 pub const STACK: usize = MAX_HEIGHT as usize + 1;
 
 // A side after a step: its link, and how many numbers its stack has.

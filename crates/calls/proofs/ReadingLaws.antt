@@ -1,5 +1,5 @@
--- What document 01 says of the calls that read, over their outcomes: they write nothing; after END both ends answer END; equal means compare 0;
--- the rescale mark.
+-- What RULES 4 and 7 say of the calls that read, over their outcomes: they write nothing; after END
+-- both ends answer END; equal means compare 0; the rescale mark.
 use mathlib.Core.Path.{_≡_, refl, ap, sym, _∙_}
 use mathlib.Core.Bool.{Bool, true, false, or-false}
 use mathlib.Core.List.{List}
@@ -74,7 +74,8 @@ ended {ws} {d = d} {w = w} o = go (answer-refuses o .0)
     go : First ws (Call.step d w) Refusal.ended (tests (Call.step d w)) → Ended ws d w
     go (First.later a (First.later b (First.later n (First.here g)))) = last n g
 
--- "After END both ends answer END, the version being unchanged": in any sound arena in which the slot lists the same.
+-- "After END both ends answer END, the version being unchanged": in any sound arena in which the
+-- slot lists the same.
 pub end-stays : {ws ws' now now' : List ℕ} {d d' : End} {w : Walk} {t u : Tree} {a : Answer} →
     Outcome (Call.step d w) ws (Answer.refused Refusal.ended) ws' → VersionIs ws (w .slot) t → Sound now → VersionIs now (w .slot) u →
     listing u ≡ listing t → Outcome (Call.step d' w) now a now' → a ≡ Answer.refused Refusal.ended

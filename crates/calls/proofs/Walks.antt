@@ -1,5 +1,6 @@
--- Document 01, "Walk": a front step takes the first of the entries that remain, a back step the last; so any mixing of steps gives each entry in range
--- exactly once, and after END at one end both ends give END.
+-- RULES 7: a front step takes the first of the entries that remain, a back step the last; so any
+-- mixing of steps gives each entry in range exactly once, and after END at one end both ends give
+-- END.
 use mathlib.Core.Path.{_≡_, refl, ap, sym, _∙_, subst}
 use mathlib.Core.Bool.{Bool, true, false, and-eq-true-iff, and-false}
 use mathlib.Core.List.{List, [], _∷_, _++_, append-assoc, append-nil}
@@ -110,7 +111,8 @@ module _ (p p' : Entry → Bool) (e : Entry) where
       go true t h ih = only (lastOf (keep p xs)) refl t h ih
       go false t h ih = rw (f x (before h), t) (ih h)
 
--- What the caller keeps after a step that gave e lets through what is past e, as before, and nothing up to e.
+-- What the caller keeps after a step that gave e lets through what is past e, as before, and
+-- nothing up to e.
 module _ (w : Range) (e : Entry) (passes : remains w e ≡ true) where
   after-e : afterFront w (e .key) ≡ true
   after-e = and-eq-true-iff (afterFront w (e .key)) (beforeBack w (e .key)) .0 passes .0
@@ -151,7 +153,8 @@ module _ (w : Range) (xs : List Entry) (e : Entry) (a : Ascending xs) where
       let t = next-passes back w xs e a h in
       last-taken (remains w) (remains (stepped back w e)) e xs a (back-past w e t) (back-gone w e t) h
 
--- Any mixing: what front steps gave, what remains, and what back steps gave are the entries in range, in listing order.
+-- Any mixing: what front steps gave, what remains, and what back steps gave are the entries in
+-- range, in listing order.
 pub walked : {xs : List Entry} {w w' : Range} {fs bs : List Entry} → Ascending xs → Walked xs w fs bs w' → remaining w xs ≡ fs ++ (remaining w' xs ++ bs)
 walked {xs} {w} a Walked.no-step = sym (append-nil (remaining w xs))
 walked {xs} {w} a (Walked.front-step {fs = fs} {bs = bs} {w' = w'} {e = e} s h) =

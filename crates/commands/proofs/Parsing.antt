@@ -230,7 +230,7 @@ none-read line a b c d e f g = as-read (rw (a, b, c, d, e, f, g))
 pub one-command : (c d : Command) → Within (numbers c) → Within (numbers d) → text c ≡ text d → c ≡ d
 one-command c d v w e = let u : Line.Says c ≡ Line.Says d = sym (read-text c v) ∙ ap read e ∙ read-text d w in cc
 
--- Document 01's line `set 0 2625619 7`.
+-- The sample's line `set 0 2625619 7`, RULES 9.16.
 example-set :
     text (Command.Set 0 2625619 7)
     ≡ 115 ∷ 101 ∷ 116 ∷ 32 ∷ 48 ∷ 32 ∷ 50 ∷ 54 ∷ 50 ∷ 53 ∷ 54 ∷ 49 ∷ 57 ∷ 32 ∷ 55 ∷ []

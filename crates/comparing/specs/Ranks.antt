@@ -11,7 +11,7 @@ use Rattle.words.specs.Reads.{Reads}
 use Rattle.answers.specs.declared.Sign.{Sign}
 use Rattle.answers.specs.Answers.{signOf}
 
--- The next entries decide; "a listing that is a proper beginning of the other is less".
+-- The next entries decide, RULES 8.1; and 8.2: "the one that ends is less".
 abbrev pub rank : Option Entry → Option Entry → order.Sign
 rank none none = same
 rank none (some f) = less

@@ -1,5 +1,5 @@
-// Document 01's compare and equal, on a sound arena: both versions are walked side by side, and where
-// they part the next entries decide.
+// Compare and equal, RULES 8.1 to 8.3, on a sound arena: both versions are walked side by side, and
+// where they part the next entries decide.
 use abreast::Heads;
 use abreast::part;
 use answers::Entered;

@@ -9,7 +9,7 @@ use lib.ListN.{length, length-append}
 use borrow.Author.Tests.{lt-ltb, le-ltb}
 use Rattle.decimal.specs.Decimal.{digit, digitsWithin, digits}
 
--- Document 01's (0028,1053), and the largest number.
+-- (0028,1053) of RULES 2.2, and the largest number.
 example-tag : digits 2625619 ≡ 50 ∷ 54 ∷ 50 ∷ 53 ∷ 54 ∷ 49 ∷ 57 ∷ []
 unfolding digits digitsWithin
 example-tag = refl

@@ -1,4 +1,4 @@
--- Document 01's starred figures hold: each row of the table is what the model computes.
+-- The starred figures of RULES 10 hold: each row of the table is what the model computes.
 use mathlib.Core.Path.{_≡_, refl, _∙_, subst}
 use mathlib.Core.Bool.{Bool, true, false, _&&_, false≢true}
 use mathlib.Core.List.{List, [], _∷_, map}

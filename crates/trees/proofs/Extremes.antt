@@ -1,4 +1,5 @@
--- "A front step answers the least entry in range that is above the former and below the latter; a back step the greatest": no other does.
+-- "A front step answers the least entry in range that is above the former and below the latter; a
+-- back step the greatest": no other does.
 use Prim.Native.Nat.{ℕ, _<_, _≤_}
 use mathlib.Core.Path.{_≡_, refl, sym, subst, _∙_}
 use mathlib.Core.Bool.{Bool, true, false, true≢false}
@@ -88,7 +89,8 @@ module _ (p : Entry → Bool) where
       (λ t. greatest p x xs t (a .0) (lastOf (keep p xs)) (last-answers xs (a .1)))
       (λ n. skipped p x xs back n (lastOf (keep p xs)) (last-answers xs (a .1)))
 
--- Of an ascending listing `next` gives the entry that document 01 words, and nothing exactly where there is none.
+-- Of an ascending listing `next` gives the entry that RULES 7.4 words, and nothing exactly where
+-- there is none.
 pub next-answers : (d : End) (w : Range) (xs : List Entry) → Ascending xs → Answers d (remains w) xs (next d w xs)
 next-answers front w xs a = first-answers (remains w) xs a
 next-answers back w xs a = last-answers (remains w) xs a
