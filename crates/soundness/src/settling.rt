@@ -120,7 +120,8 @@ fn settle_all(ws: &[u32], queue: &[u32], tail: u32, memo: &mut [u32], ends: &mut
     let mut k = tail;
     while 0 < k {
         k -= 1;
-        if !settle(ws, queue[k as usize], memo, ends) {
+        let i = queue[k as usize];
+        if !settle(ws, i, memo, ends) {
             return false;
         }
     }

@@ -20,8 +20,8 @@ loop-holds c =
     let p = places _ _ _ 0 (c .before .before .before .before .before .before .before .before .before .before .before .pre .1) (omega arith) in
     record { settling = settling-start _ _ _ (c .before .before .before .before .before .before .before .before .before .before .before .pre .0) _ _ (empty-noted _ _ p _ _ (c .before .before .before .before .put .ensures)); memo-long = refl; ends-long = refl }
 
-shared-slice-read-settle : tie.Need-shared-slice-read-settle Inv-loop μ-loop
-shared-slice-read-settle c =
+shared-slice-read-i : tie.Need-shared-slice-read-i Inv-loop μ-loop
+shared-slice-read-i c =
     let test = c .before in
     let loop = test .before .loop .inv in
     let first = test .before .before .before .before .before .before in
@@ -97,7 +97,7 @@ settle-all-spec =
     (λ c. search needs)
     (λ c. search needs)
     (λ c. search needs)
-    shared-slice-read-settle
+    shared-slice-read-i
     settle-requires
     same-length
     same-length-2
