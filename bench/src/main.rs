@@ -81,7 +81,7 @@ fn is_asked_for(section: &str, named: &[String]) -> bool {
 fn tables(file: &str) -> ExitCode {
     let revisions = [Revision::linked()];
     println!("## The soundness test\n");
-    soundness::table(&revisions, &mut soundness::planted(), PASSES);
+    soundness::table(&revisions, &mut soundness::planted(), soundness::Run::Long, PASSES);
     bytes_table(&revisions);
     let tables = by_size::tables(&revisions, PASSES);
     let named: Vec<(&str, &Vec<Row>)> = TABLES.iter().map(|table| table.name).zip(&tables).collect();
@@ -95,10 +95,12 @@ fn tables(file: &str) -> ExitCode {
 }
 
 fn soundness_of_two(revisions: &[Revision]) {
-    println!("\n## The soundness test after random edits\n");
-    soundness::table(revisions, &mut soundness::after_histories(revisions), PASSES);
-    println!("\n## The soundness test on planted arenas, the nodes in the order of the keys\n");
-    soundness::table(revisions, &mut soundness::planted(), PASSES);
+    for run in [soundness::Run::Long, soundness::Run::Short] {
+        println!("\n## The soundness test after random edits, {} in a row\n", run as usize);
+        soundness::table(revisions, &mut soundness::after_histories(revisions), run, PASSES);
+        println!("\n## On planted arenas, the nodes in the order of the keys, {} in a row\n", run as usize);
+        soundness::table(revisions, &mut soundness::planted(), run, PASSES);
+    }
 }
 
 fn bytes_table(revisions: &[Revision]) {

@@ -31,8 +31,13 @@ const HISTORIES: [(u32, u32, usize, Until); 5] = [
     (15, 3, 2, Until::Full),
 ];
 
-/// How often a round calls what takes microseconds.
-const REPEATS: usize = 4;
+/// How many tests a round makes of each revision before the next has its turn. In a long run the
+/// processor learns the turns of the arena's links, in a short one it does so less.
+#[derive(Clone, Copy)]
+pub enum Run {
+    Short = 4,
+    Long = 64,
+}
 
 /// The same for a pass.
 const PASSES_OVER_WORDS: usize = 20;
@@ -84,12 +89,12 @@ struct Times {
     pass: f64,
 }
 
-pub fn table(revisions: &[Revision], arenas: &mut [Lent], passes: usize) {
+pub fn table(revisions: &[Revision], arenas: &mut [Lent], run: Run, passes: usize) {
     arenas.iter_mut().for_each(|lent| check(revisions, lent));
-    let mut least: Vec<Times> = arenas.iter_mut().map(|lent| measure(revisions, lent)).collect();
+    let mut least: Vec<Times> = arenas.iter_mut().map(|lent| measure(revisions, lent, run)).collect();
     for _ in 1..passes {
         for (kept, lent) in least.iter_mut().zip(arenas.iter_mut()) {
-            let again = measure(revisions, lent);
+            let again = measure(revisions, lent, run);
             kept.tests.iter_mut().zip(again.tests).for_each(|(kept, other)| *kept = kept.min(other));
             kept.pass = kept.pass.min(again.pass);
         }
@@ -124,12 +129,13 @@ fn check(revisions: &[Revision], lent: &mut Lent) {
     }
 }
 
-fn measure(revisions: &[Revision], lent: &mut Lent) -> Times {
+fn measure(revisions: &[Revision], lent: &mut Lent, run: Run) -> Times {
+    let repeats = run as usize;
     let tests = least_times(revisions.len(), |i| {
-        time(|| (0..REPEATS).for_each(|_| see(revisions[i].call(black_box(lent), Call::Sound))))
+        time(|| (0..repeats).for_each(|_| see(revisions[i].call(black_box(lent), Call::Sound))))
     });
     let words = lent.words();
     let sum = || black_box(words).iter().fold(0u32, |sum, word| sum.wrapping_add(*word));
     let pass = least_of(PASSES_OVER_WORDS, || (0..PASSES_OVER_WORDS).for_each(|_| see(sum())));
-    Times { tests: tests.into_iter().map(|taken| taken / REPEATS as f64).collect(), pass }
+    Times { tests: tests.into_iter().map(|taken| taken / repeats as f64).collect(), pass }
 }
