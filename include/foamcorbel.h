@@ -15,8 +15,9 @@
  * to one object of its type, outside the words. While the call runs nobody else writes them, or reads those that the call may write. Nothing more is
  * owed: the words may hold anything, the length may be any, and so may every number. Words that are no sound arena are refused.
  *
- * There is no heap, no state beside the words, and no function that does not return. A call takes less than 48 kB of stack, and
- * on an arena of at most 255 nodes less than 16 kB.
+ * There is no heap, no state beside the words, and no function that does not return. A call takes
+ * less than 48 kB of stack, and on an arena of at most 255 nodes less than 16 kB: this is measured
+ * (tests/c/stack.c), not proved.
  */
 #ifndef FOAMCORBEL_H
 #define FOAMCORBEL_H

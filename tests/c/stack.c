@@ -11,9 +11,9 @@
 #define STACK (256 * 1024)
 #define PAINT 0xa5
 
-/* An arena of this many nodes, and the most bytes for its soundness test and for any call on it. The
- * last are what include/foamcorbel.h promises; the first are the scratch of the arena's size and
- * little more, so that they tell whether a small arena pays for a large one. */
+/* An arena of this many nodes, and the most bytes for its soundness test and for any call on it.
+ * The last are what include/foamcorbel.h promises; the first are the scratch of the arena's size
+ * and little more, so that they tell whether a small arena pays for a large one. */
 typedef struct {
     uint32_t nodes;
     size_t test;
@@ -37,31 +37,48 @@ static void *nothing(void *unused)
     return unused;
 }
 
-/* Removes a key of the version and compares with what is left, where there is room. */
-static void remove_and_compare(uint32_t slot, uint32_t key)
+/* The calls that read a version of which this key is the greatest. */
+static void read_all(uint32_t slot, uint32_t key)
 {
-    uint32_t next = 0;
-    int32_t sign = 0;
-    if (foamcorbel_remove(words, len, slot, key, &next) == FOAMCORBEL_ACCEPTED) {
-        EXPECT(foamcorbel_compare(words, len, slot, next, &sign) == FOAMCORBEL_ACCEPTED && sign != 0);
-        EXPECT(foamcorbel_release(words, len, next) == FOAMCORBEL_ACCEPTED);
-    }
+    foamcorbel_walk walk = foamcorbel_walk_over(slot);
+    foamcorbel_entry entry = {0, 0};
+    uint32_t word = 0;
+    EXPECT(foamcorbel_get(words, len, slot, key, &word) == FOAMCORBEL_ACCEPTED && word == key);
+    EXPECT(foamcorbel_size(words, len, slot, &word) == FOAMCORBEL_ACCEPTED && word == key + 1);
+    EXPECT(foamcorbel_free_nodes(words, len, &word) == FOAMCORBEL_ACCEPTED && word < nodes);
+    EXPECT(foamcorbel_first(words, len, slot, &entry) == FOAMCORBEL_ACCEPTED && entry.key == 0);
+    EXPECT(foamcorbel_last(words, len, slot, &entry) == FOAMCORBEL_ACCEPTED && entry.key == key);
+    EXPECT(foamcorbel_step_front(words, len, &walk, &entry) == FOAMCORBEL_ACCEPTED && entry.key == 0);
+    EXPECT(foamcorbel_step_back(words, len, &walk, &entry) == FOAMCORBEL_ACCEPTED && entry.key == key);
+    EXPECT(foamcorbel_rescale_mark(words, len, slot, &word) == FOAMCORBEL_ACCEPTED && word == 0);
 }
 
-/* Fills an arena until an insertion is refused; at each size a removal, a comparison and a lookup. */
+/* Compares the version with another that differs, and gives the other up. */
+static void compare_and_release(uint32_t slot, uint32_t other)
+{
+    int32_t sign = 0;
+    uint32_t equal = 1;
+    EXPECT(foamcorbel_compare(words, len, slot, other, &sign) == FOAMCORBEL_ACCEPTED && sign != 0);
+    EXPECT(foamcorbel_equal(words, len, slot, other, &equal) == FOAMCORBEL_ACCEPTED && equal == 0);
+    EXPECT(foamcorbel_release(words, len, other) == FOAMCORBEL_ACCEPTED);
+}
+
+/* Fills an arena until an insertion is refused, and makes every other call at each size. */
 static void *history(void *unused)
 {
     uint32_t slot = 0;
     uint32_t next = 0;
-    uint32_t value = 0;
     uint32_t key = 0;
     EXPECT(foamcorbel_format(words, len, nodes, FOAMCORBEL_MAX_SLOTS) == FOAMCORBEL_ACCEPTED);
     EXPECT(foamcorbel_new_version(words, len, &slot) == FOAMCORBEL_ACCEPTED);
     while (foamcorbel_insert(words, len, slot, key, key, &next) == FOAMCORBEL_ACCEPTED) {
-        EXPECT(foamcorbel_release(words, len, slot) == FOAMCORBEL_ACCEPTED);
-        slot = next;
-        EXPECT(foamcorbel_get(words, len, slot, key, &value) == FOAMCORBEL_ACCEPTED && value == key);
-        remove_and_compare(slot, key / 2);
+        compare_and_release(next, slot);
+        EXPECT(foamcorbel_hold(words, len, next, &slot) == FOAMCORBEL_ACCEPTED);
+        EXPECT(foamcorbel_release(words, len, next) == FOAMCORBEL_ACCEPTED);
+        read_all(slot, key);
+        if (foamcorbel_remove(words, len, slot, key / 2, &next) == FOAMCORBEL_ACCEPTED) {
+            compare_and_release(slot, next);
+        }
         key++;
     }
     EXPECT(key > nodes / 2);

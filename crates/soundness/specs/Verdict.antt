@@ -14,6 +14,16 @@ abbrev pub Verdict : List ℕ → Tested → Type 0
 Verdict ws (Sound f) = SoundWith ws f
 Verdict ws Unsound = sound.Sound ws → ⊥
 
+-- How many links the three sizes of scratch have room for.
+abbrev pub smallLinks : ℕ
+smallLinks = 64
+
+abbrev pub middleLinks : ℕ
+middleLinks = 256
+
+abbrev pub largeLinks : ℕ
+largeLinks = 2048
+
 -- An arena within its limits, and scratch for each of its links.
 pub record Scratch (ws memo ends queue : List ℕ) : Type 0 where
   pub fresh : Fresh ws memo queue

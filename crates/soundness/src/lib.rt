@@ -8,14 +8,14 @@ ghost use Rattle.words.specs.Layout.{nodes};
 ghost use Rattle.words.specs.Sound.{Sound};
 ghost use Rattle.soundness_laws.specs.Answer.{Decides};
 ghost use Rattle.soundness_laws.specs.Within.{Within};
-ghost use Rattle.soundness.specs.Verdict.{Verdict, Scratch};
+ghost use Rattle.soundness.specs.Verdict.{Verdict, Scratch, smallLinks, middleLinks, largeLinks};
 use crate::settling::trees_right;
 use arena::nodes_of;
 use limits::within_limits;
 use reaching::STOPPED;
 use reaching::live_nodes;
 
-// The links that each tier of scratch has room for: none, and the nodes of an arena.
+// How many links each size of scratch has room for: 0 for none, and the nodes of an arena.
 const SMALL: usize = 64;
 
 const MIDDLE: usize = 256;
@@ -47,7 +47,7 @@ fn test_on(ws: &[u32], memo: &mut [u32], ends: &mut [u32], queue: &mut [u32]) ->
 
 // Tests an arena of fewer than SMALL nodes.
 fn test_small(ws: &[u32]) -> Tested
-    requires { ⌜ Within (now ws) × (nodes (now ws) < 64) ⌝ }
+    requires { ⌜ Within (now ws) × (nodes (now ws) < smallLinks) ⌝ }
     ensures { λ r. ⌜ Verdict (now (ws .entry)) r ⌝ }
 {
     let mut memo = [0u32; SMALL];
@@ -58,7 +58,7 @@ fn test_small(ws: &[u32]) -> Tested
 
 // Tests an arena of fewer than MIDDLE nodes.
 fn test_middle(ws: &[u32]) -> Tested
-    requires { ⌜ Within (now ws) × (nodes (now ws) < 256) ⌝ }
+    requires { ⌜ Within (now ws) × (nodes (now ws) < middleLinks) ⌝ }
     ensures { λ r. ⌜ Verdict (now (ws .entry)) r ⌝ }
 {
     let mut memo = [0u32; MIDDLE];
@@ -69,7 +69,7 @@ fn test_middle(ws: &[u32]) -> Tested
 
 // Tests an arena of fewer than LARGE nodes.
 fn test_large(ws: &[u32]) -> Tested
-    requires { ⌜ Within (now ws) × (nodes (now ws) < 2048) ⌝ }
+    requires { ⌜ Within (now ws) × (nodes (now ws) < largeLinks) ⌝ }
     ensures { λ r. ⌜ Verdict (now (ws .entry)) r ⌝ }
 {
     let mut memo = [0u32; LARGE];
@@ -78,21 +78,21 @@ fn test_large(ws: &[u32]) -> Tested
     test_on(ws, &mut memo, &mut ends, &mut queue)
 }
 
-// Tests an arena on the least scratch that is large enough, from this tier on. Into a function that
+// Tests an arena on the least scratch that is large enough, from this size on. Into a function that
 // calls itself the compiler inlines no large frame, so a small arena never pays for a large one's
 // scratch.
-fn test_from(ws: &[u32], tier: u32) -> Tested
+fn test_from(ws: &[u32], size: u32) -> Tested
     requires { ⌜ Within (now ws) ⌝ }
     ensures { λ r. ⌜ Verdict (now (ws .entry)) r ⌝ }
 {
     let n = nodes_of(ws) as usize;
-    if tier == 0 {
+    if size == 0 {
         if n < SMALL {
             return test_small(ws);
         }
         return test_from(ws, 1);
     }
-    if tier == 1 {
+    if size == 1 {
         if n < MIDDLE {
             return test_middle(ws);
         }

@@ -51,7 +51,7 @@ pub record Queue (ws : List ℕ) (f : ℕ → ℕ) (names queue : List ℕ) (tai
   pub are : (x : ℕ) → 1 ≤ x → x ≤ nodes ws → getD names x 0 ≡ f x
   pub full : Full ws f (take tail queue)
 
--- What one name more for the link x asks.
+-- What one name more for a link asks.
 pub record Arriving (ws names queue : List ℕ) (tail : ℕ) : Type 0 where
   pub within : Within ws
   pub room : nodes ws < length names

@@ -8,8 +8,8 @@ use Rattle.trees.specs.Listing.{Ascending}
 use Rattle.trees.specs.Shape.{Rb}
 use Rattle.words.specs.Layout.{code}
 
--- The words of a summary. `blacks` is one more than the black nodes on each way down, so that 0
--- says: nothing noted.
+-- What a summary says. `blacks` is one more than the black nodes on each way down: a missing child
+-- counts as a black level.
 pub record Brief : Type 0 where
   pub blacks : ℕ
   pub size : ℕ

@@ -72,14 +72,15 @@ fn answer_words(call: Call) -> usize {
 }
 
 impl Functions {
-    /// Makes the call on the words. Every call takes a pointer that may write, so that a call that ought only to read could be
-    /// caught writing.
+    /// Makes the call on the words. Every call takes a pointer that may write, so that a call that
+    /// ought only to read could be caught writing.
     pub fn call(&self, words: &mut [u32], call: Call) -> Answer {
         let (ws, len) = (words.as_mut_ptr(), words.len());
         let mut place = [PAINT; 4];
         let out = place[1..].as_mut_ptr();
-        // SAFETY: the words are lent whole and by their length, `out` has room for three words, more than any answer has, and a
-        // walk is nine words; nobody else has any of them while the call runs.
+        // SAFETY: the words are lent whole and by their length, `out` has room for three words, more
+        // than any answer has, and a walk is nine words; nobody else has any of them while the call
+        // runs.
         let refusal = unsafe {
             match call {
                 Call::Format { n, v } => (self.foamcorbel_format)(ws, len, n, v),
