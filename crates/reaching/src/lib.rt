@@ -1,8 +1,7 @@
 // The first half of the soundness test: every node that is reached, each queued after all that name
 // it, and the free list.
 ghost use Prim.Native.Nat.{_+_, _<_};
-ghost use lib.ListN.{length};
-ghost use Rattle.words.specs.Layout.{nodes, slots};
+ghost use Rattle.words.specs.Layout.{slots};
 ghost use Rattle.soundness_laws.specs.Answer.{Decides};
 ghost use Rattle.soundness_laws.specs.Within.{Within};
 ghost use Rattle.soundness_laws.specs.Queue.{Fresh, Arriving, Arrives, Roots, Heads, Reach, Onward};

@@ -12,7 +12,6 @@ use Rattle.soundness_laws.specs.Answer.{Answers, Decides}
 use Rattle.soundness_laws.specs.Within.{Within}
 use Rattle.soundness_laws.specs.Ways.{stopped}
 use Rattle.soundness_laws.specs.Queue.{Blank, Onward}
-use Rattle.soundness_laws.specs.Packed.{Room}
 use Rattle.soundness_laws.specs.Whole.{Whole, SoundWith}
 use Rattle.soundness_laws.proofs.Saying.{say-yes, say-no, heard-yes, heard-no}
 use Rattle.soundness.specs.Verdict.{Verdict, Scratch}

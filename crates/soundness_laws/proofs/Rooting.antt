@@ -5,7 +5,6 @@ use mathlib.Core.List.{List, []}
 use Prim.Native.Nat.{ℕ, _+_, _≤_, _<_}
 use native.Mathlib.Omega.{arith}
 use native.Mathlib.Decide.{ℕ-discrete}
-use lib.ListN.{length}
 use Rattle.words.specs.Layout.{nodes, slots, slotRoot, notHeld}
 use Rattle.words.specs.Counting.{same, occ, sum}
 use Rattle.words.specs.Reads.{Held}
@@ -14,7 +13,6 @@ use Rattle.words.specs.Owned.{held}
 use Rattle.words.proofs.Counts.{same-eq, same-ne}
 use Rattle.words.proofs.Holding.{reads-link}
 use Rattle.words.proofs.SoundOwned.{sound-owned}
-use Rattle.soundness_laws.specs.Within.{Within}
 use Rattle.soundness_laws.proofs.Slots.{root-read}
 use Rattle.soundness_laws.specs.Queue.{Fresh, met, Full, Surplus, Arrives, Roots, Heads, Onward}
 use Rattle.soundness_laws.proofs.Filling.{plus}

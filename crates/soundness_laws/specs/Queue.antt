@@ -5,7 +5,7 @@ use mathlib.Core.List.{List, [], map}
 use Prim.Native.Nat.{ℕ, suc, _+_, _≤_, _<_}
 use lib.ListN.{length, getD, set, take}
 use Rattle.words.specs.Layout.{nodes, slots, left, right, count, slotRoot}
-use Rattle.words.specs.Counting.{same, occ, sum}
+use Rattle.words.specs.Counting.{occ, sum}
 use Rattle.words.specs.Owned.{held}
 use Rattle.words.specs.Reads.{Held}
 use Rattle.words.specs.Sound.{Reached, Sound}
