@@ -33,7 +33,8 @@ callOf (Command.List s) = Call.step front (walkFrom s none)
 abbrev pub refusalReply : Refusal → Reply
 refusalReply r = if eqb (number r) 8 then Reply.End else Reply.Refused (number r)
 
--- RULES 9.6 to 9.12, the last column. No command makes a call that answers a sign or a truth.
+-- RULES 9.6 to 9.12, the last column. No command makes a call that answers a sign, a truth or a
+-- difference.
 abbrev pub replyOf : Answer → Reply
 replyOf (Answer.refused r) = refusalReply r
 replyOf Answer.done = Reply.Done
@@ -43,6 +44,7 @@ replyOf (Answer.value v) = Reply.Number v
 replyOf (Answer.entry e) = Reply.Entry (e .key) (e .value)
 replyOf (Answer.sign d) = Reply.Unknown
 replyOf (Answer.truth b) = Reply.Unknown
+replyOf (Answer.difference d) = Reply.Unknown
 
 abbrev pub Small : Reply → Type 0
 Small (Reply.Number n) = Unit {0}

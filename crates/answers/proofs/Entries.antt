@@ -1,6 +1,6 @@
 -- The first tests of a call, as the code makes them.
 use mathlib.Core.Path.{_≡_, refl, ap, sym, _∙_, subst}
-use mathlib.Core.List.{List, _∷_}
+use mathlib.Core.List.{List, [], _∷_}
 use Prim.Native.Nat.{ℕ, _≤_, _<_}
 use native.Mathlib.Omega.{arith}
 use lib.ListN.{length}
@@ -69,3 +69,8 @@ module _ {ws : List ℕ} {s : ℕ} {x : Entered} (S : Sound ws) (g : Enters ws s
 pub named-first : (s : ℕ) (xs : List ℕ) → 1 ≤ occ s (s ∷ xs)
 unfolding occ
 named-first s xs = omega (arith, same-eq s s refl)
+
+-- One that it names second.
+pub named-second : (s t : ℕ) → 1 ≤ occ t (s ∷ (t ∷ []))
+unfolding occ
+named-second s t = omega (arith, same-eq t t refl)

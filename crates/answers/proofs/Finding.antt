@@ -4,15 +4,18 @@ use mathlib.Core.List.{List}
 use mathlib.Core.Option.{Option}
 use Prim.Native.Nat.{ℕ}
 use Rattle.trees.specs.Tree as trees
-use Rattle.words.specs.Reads.{Held}
+use Rattle.words.specs.Layout.{nodes}
+use Rattle.words.specs.Reads.{Reads, Held}
 use Rattle.words.specs.Sound.{Sound}
 use Rattle.lookup.specs.declared.Found.{Found}
 use Rattle.lookup.specs.Finding.{foundOf, Finds}
 use Rattle.lookup.proofs.Versions.{version-finds}
 use Rattle.calls.specs.Refusal as calls
+use Rattle.calls.specs.Reading.{orRefused}
 use Rattle.calls.specs.Call as call
+use Rattle.calls.specs.Version.{VersionIs}
 use Rattle.calls.specs.Outcome.{Outcome}
-use Rattle.calls.proofs.ReadingOutcomes.{orRefused}
+use Rattle.calls.proofs.Versions.{version-of}
 use Rattle.answers.specs.declared.Entered.{Entered}
 use Rattle.answers.specs.Entering.{Enters}
 use Rattle.answers.proofs.Entries.{root-of}
@@ -23,6 +26,13 @@ module _ {ws : List ℕ} {s : ℕ} {x : Entered} (S : Sound ws) (g : Enters ws s
 
   abbrev pub slot-tree : trees.Tree
   slot-tree = S .trees .tree s slot-held
+
+  -- The root that was entered holds the slot's tree.
+  pub slot-version : VersionIs ws s slot-tree
+  slot-version = version-of S s slot-held
+
+  pub root-reads : Reads (nodes ws) ws i slot-tree
+  root-reads = subst (λ (k : ℕ). Reads (nodes ws) ws k slot-tree) (sym (root-of S g e .1)) (slot-version .reads)
 
   pub found-in : (f : Found) (look : trees.Tree → Option trees.Entry) → Finds ws i f look → foundOf f ≡ look slot-tree
   found-in f look y = version-finds ws S s slot-held f look (subst (λ (j : ℕ). Finds ws j f look) (root-of S g e .1) y)

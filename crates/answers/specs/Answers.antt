@@ -2,6 +2,7 @@
 -- a definition gives the number or value of this page, and the promises use that definition."
 use Prim.Native.Nat.{ℕ}
 use Rattle.trees.specs.Order as order
+use Rattle.trees.specs.Difference as trees
 use Rattle.arena.specs.Nodes.{entryOf}
 use Rattle.calls.specs.Refusal as calls
 use Rattle.calls.specs.Call as call
@@ -14,6 +15,9 @@ use Rattle.answers.specs.declared.TruthAnswer.{TruthAnswer}
 use Rattle.answers.specs.declared.SignAnswer.{SignAnswer}
 use Rattle.answers.specs.declared.Sign.{Sign}
 use Rattle.answers.specs.declared.Sign.the-variants.{Less, Same, More}
+use Rattle.answers.specs.declared.Difference.{Difference}
+use Rattle.answers.specs.declared.Difference.the-variants.{OnlyFirst, OnlySecond, InBoth}
+use Rattle.answers.specs.declared.DifferenceAnswer.{DifferenceAnswer}
 
 -- RULES 4.22 to 4.29.
 abbrev pub refusalOf : Refusal → calls.Refusal
@@ -54,3 +58,13 @@ signOf More = order.more
 abbrev pub signAnswer : SignAnswer → call.Answer
 signAnswer (SignAnswer.Sign d) = call.Answer.sign (signOf d)
 signAnswer (SignAnswer.Refused r) = call.Answer.refused (refusalOf r)
+
+-- RULES 8.7.
+abbrev pub differenceOf : Difference → trees.Difference
+differenceOf (OnlyFirst e) = trees.only-first (entryOf e)
+differenceOf (OnlySecond f) = trees.only-second (entryOf f)
+differenceOf (InBoth e f) = trees.in-both (entryOf e) (entryOf f)
+
+abbrev pub differenceAnswer : DifferenceAnswer → call.Answer
+differenceAnswer (DifferenceAnswer.Difference d) = call.Answer.difference (differenceOf d)
+differenceAnswer (DifferenceAnswer.Refused r) = call.Answer.refused (refusalOf r)

@@ -70,6 +70,19 @@ pub enum SignAnswer {
     Refused(Refusal),
 }
 
+// RULES 8.7: at a tag only the first version has an entry, only the second, or both, and not the
+// same.
+pub enum Difference {
+    OnlyFirst(Entry),
+    OnlySecond(Entry),
+    InBoth(Entry, Entry),
+}
+
+pub enum DifferenceAnswer {
+    Difference(Difference),
+    Refused(Refusal),
+}
+
 // The root of a slot's version.
 pub enum Entered {
     Root(u32),

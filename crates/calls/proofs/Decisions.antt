@@ -33,6 +33,7 @@ tests-ascend (Call.equal s t) = refl
 tests-ascend (Call.step d w) = refl
 tests-ascend (Call.rescale-mark s) = refl
 tests-ascend Call.soundness-test = refl
+tests-ascend (Call.difference x) = refl
 
 -- Of the refusals rs, r is the first that is given.
 pub data First (ws : List ℕ) (c : Call) (r : Refusal) : List Refusal → Type 0 where

@@ -63,6 +63,7 @@ accepted-words (Call.equal s t) ws a b w w' g h = g .unchanged ∙ sym (h .uncha
 accepted-words (Call.step d x) ws a b w w' g h = g .unchanged ∙ sym (h .unchanged)
 accepted-words (Call.rescale-mark s) ws a b w w' g h = g .unchanged ∙ sym (h .unchanged)
 accepted-words Call.soundness-test ws a b w w' g h = g .unchanged ∙ sym (h .unchanged)
+accepted-words (Call.difference x) ws a b w w' g h = g .unchanged ∙ sym (h .unchanged)
 
 -- A refused call changes no word, so nothing is renamed.
 same-words : (x : Option (ℕ → Bool)) {w w' : List ℕ} → w ≡ w' → SameBut x w w'

@@ -25,7 +25,7 @@ use Rattle.words.proofs.SoundOwned.{sound-owned}
 use Rattle.words.proofs.FreeNumber.{sound-idles}
 use Rattle.calls.specs.Refusal.{Refusal}
 use Rattle.calls.specs.Call.{Call, Answer}
-use Rattle.calls.specs.Reading.{valueOf}
+use Rattle.calls.specs.Reading.{valueOf, orRefused}
 use Rattle.calls.specs.Version.{VersionIs, Lowest}
 use Rattle.calls.specs.Outcome.{Outcome}
 use Rattle.calls.specs.History.{Model, noVersions, after, Calls, History, Lists, SlotAs, Keeps}
@@ -34,7 +34,7 @@ use Rattle.calls.proofs.Histories.{history}
 use Rattle.calls.proofs.Passing.{no-version-outcome}
 use Rattle.calls.proofs.Sharing.{no-root, shared-free}
 use Rattle.calls.proofs.Formatting.{format-free}
-use Rattle.calls.proofs.ReadingOutcomes.{orRefused, get-outcome}
+use Rattle.calls.proofs.ReadingOutcomes.{get-outcome}
 use Rattle.calls.proofs.WritingOutcomes.{new-outcome, hold-outcome, insert-outcome, release-outcome}
 use Rattle.calls.proofs.FormatExists.{formatting, is-formatted, format-exists}
 

@@ -11,6 +11,7 @@ use lib.ListN.{length}
 use Rattle.trees.specs.Tree.{Entry, Tree, listing}
 use Rattle.trees.specs.Listing.{find, firstOf, lastOf}
 use Rattle.trees.specs.Range.{next}
+use Rattle.trees.specs.Difference.{Difference, nextDifference}
 use Rattle.words.specs.Reads.{Held}
 use Rattle.words.specs.Sound.{AllReached, freeNumber}
 use Rattle.calls.specs.Refusal.{Refusal}
@@ -31,7 +32,7 @@ first-given (First.here g) = g
 first-given (First.later n f) = first-given f
 
 module _ (r : Refusal) where
-  found-no : (f : Entry → Answer) → ((e : Entry) → f e ≡ Answer.refused r → ⊥) → (o : Option Entry) → answerBy f o ≡ some (Answer.refused r) → ⊥
+  found-no : {A : Type 0} (f : A → Answer) → ((e : A) → f e ≡ Answer.refused r → ⊥) → (o : Option A) → answerBy f o ≡ some (Answer.refused r) → ⊥
   found-no f n none e = let z : _≡_ {A = ℕ} 0 1 = cc in omega arith
   found-no f n (some x) e = n x (cc)
 
@@ -40,6 +41,9 @@ module _ (r : Refusal) where
 
   entry-no : (e : Entry) → Answer.entry e ≡ Answer.refused r → ⊥
   entry-no e h = let z : _≡_ {A = ℕ} 0 1 = cc in omega arith
+
+  difference-no : (d : Difference) → Answer.difference d ≡ Answer.refused r → ⊥
+  difference-no d h = let z : _≡_ {A = ℕ} 0 1 = cc in omega arith
 
   slot-no : (q : ℕ) → Answer.refused r ≡ Answer.slot q → ⊥
   slot-no q e = let z : _≡_ {A = ℕ} 0 1 = cc in omega arith
@@ -65,10 +69,12 @@ module _ (r : Refusal) where
   accepted-no (Call.insert s e) ws ws' g = slot-no (g .hands-out .out) (g .hands-out .answer)
   accepted-no (Call.remove s k) ws ws' g = removed-no g
   accepted-no (Call.compare s t) ws ws' g = let e = g .answer in let z : _≡_ {A = ℕ} 0 1 = cc in omega arith
-  accepted-no (Call.equal s t) ws ws' g = truth-no _ (g .answer)
+  accepted-no (Call.equal s t) ws ws' g = let e = g .answer in let z : _≡_ {A = ℕ} 0 1 = cc in omega arith
   accepted-no (Call.step d w) ws ws' g = found-no Answer.entry entry-no (next d (w .range) (listing (g .tree))) (g .answer)
   accepted-no (Call.rescale-mark s) ws ws' g = let e = g .answer in let z : _≡_ {A = ℕ} 0 1 = cc in omega arith
   accepted-no Call.soundness-test ws ws' g = ⊎-elim (λ x. truth-no true (x .1)) (λ x. truth-no false (x .1)) (g .answer)
+  accepted-no (Call.difference x) ws ws' g =
+      found-no Answer.difference difference-no (nextDifference (x .given) (listing (g .tree)) (listing (g .other))) (g .answer)
 
 -- So an answer that is no refusal is that of an accepted call, and a refusal is the first one given.
 pub answer-accepts : {c : Call} {ws : List ℕ} {a : Answer} {ws' : List ℕ} → Outcome c ws a ws' → ((r : Refusal) → a ≡ Answer.refused r → ⊥) →
@@ -119,9 +125,9 @@ module _ {ws ws' : List ℕ} {m : Model} {a : Answer} (K : Keeps ws m) where
   pub tells-model : {s : ℕ} {xs : List Entry} {f : List Entry → Option Answer} → m .lists s ≡ some xs → Tells ws s f a ws' → f xs ≡ some a
   tells-model {f = f} e g = ap f (sym (model-listing K (g .version) e)) ∙ g .answer
 
-  pub tells-both-model : {s t : ℕ} {xs ys : List Entry} {f : List Entry → List Entry → Answer} → m .lists s ≡ some xs → m .lists t ≡ some ys →
-      TellsBoth ws s t f a ws' → a ≡ f xs ys
-  tells-both-model {f = f} d e g = g .answer ∙ rw (model-listing K (g .version) d, model-listing K (g .other-version) e)
+  pub tells-both-model : {s t : ℕ} {xs ys : List Entry} {f : List Entry → List Entry → Option Answer} → m .lists s ≡ some xs → m .lists t ≡ some ys →
+      TellsBoth ws s t f a ws' → f xs ys ≡ some a
+  tells-both-model {f = f} d e g = rw (← model-listing K (g .version) d, ← model-listing K (g .other-version) e) (g .answer)
 
   pub tells-free-model : {xs : List ℕ} → AllReached ws xs → TellsFree ws a ws' → (f : ℕ) × (a ≡ Answer.number f) × (f + length xs ≡ m .n)
   tells-free-model {xs} r g = (freeNumber (g .before), g .answer, K .free-is (g .before) xs r)

@@ -24,6 +24,7 @@ pub mod GivingUp
 pub mod WritingOutcomes
 pub mod FormatExists
 pub mod ReadingLaws
+pub mod DifferenceSteps
 pub mod Example
 pub mod NewNodes
 pub mod Taken

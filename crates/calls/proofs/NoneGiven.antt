@@ -11,10 +11,11 @@ use Rattle.heights.specs.Height.{insertReserve, removeReserve}
 use Rattle.trees.specs.Tree.{Entry, Tree, listing, size}
 use Rattle.trees.specs.Listing.{find, firstOf, lastOf}
 use Rattle.trees.specs.Range.{End, next, badRange}
+use Rattle.trees.specs.Difference.{Difference, nextDifference}
 use Rattle.words.specs.Reads.{Held}
 use Rattle.words.specs.Sound.{Limits, Sound, freeNumber}
 use Rattle.calls.specs.Refusal.{Refusal}
-use Rattle.calls.specs.Call.{Walk, Call}
+use Rattle.calls.specs.Call.{Walk, Differences, Call}
 use Rattle.calls.specs.Table.{tests}
 use Rattle.calls.specs.Version.{VersionIs, Lowest}
 use Rattle.calls.specs.Given.{Given}
@@ -102,3 +103,15 @@ step-passed {ws} {w} S x d h e f = passed-version refl S (one-held (x .held)) (P
   where
     no : Given ws Refusal.ended (Call.step d w) → ⊥
     no (Given.ended v n) = found-once (next d (w .range)) x f v n
+
+pub difference-passed : {ws : List ℕ} {x : Differences} {t u : Tree} (S : Sound ws) → VersionIs ws (x .first) t → VersionIs ws (x .second) u →
+    {d : Difference} → nextDifference (x .given) (listing t) (listing u) ≡ some d → NoneGiven ws (Call.difference x)
+difference-passed {ws} {x} {t} {u} S v w {d} f = passed-version refl S (two-held (v .held) (w .held)) (Passed.and no Passed.all)
+  where
+    no : Given ws Refusal.ended (Call.difference x) → ⊥
+    no (Given.no-difference v' w' n) =
+        let y = ap listing (version-one v' v) in
+        let z = ap listing (version-one w' w) in
+        let o : nextDifference (x .given) (listing t) (listing u) ≡ none = rw (← y, ← z) n in
+        let i : _≡_ {A = ℕ} 0 1 = cc in
+        omega arith

@@ -3,7 +3,7 @@
 use mathlib.Core.Path.{_≡_, refl, ap, sym, _∙_}
 use mathlib.Core.Bool.{Bool, true, false, or-false}
 use mathlib.Core.List.{List}
-use mathlib.Core.Option.{none}
+use mathlib.Core.Option.{none, some}
 use Prim.Native.Nat.{ℕ}
 use native.Mathlib.Omega.{arith}
 use Rattle.trees.specs.Tree.{Entry, Tree, listing}
@@ -18,14 +18,14 @@ use Rattle.calls.specs.Call.{Walk, Call, Answer}
 use Rattle.calls.specs.Version.{VersionIs}
 use Rattle.calls.specs.Given.{Given}
 use Rattle.calls.specs.Table.{tests}
-use Rattle.calls.specs.Reading.{TellsBoth, rescaleSlope, marked}
+use Rattle.calls.specs.Reading.{TellsBoth, rescaleSlope, marked, orRefused}
 use Rattle.calls.specs.Effect.{Effect, effect}
 use Rattle.calls.specs.Outcome.{Accepted, Outcome}
 use Rattle.calls.proofs.Versions.{version-one}
 use Rattle.calls.proofs.Decisions.{First, Either, either}
 use Rattle.calls.proofs.Histories.{answer-accepts, answer-refuses}
 use Rattle.calls.proofs.Walks.{after-end}
-use Rattle.calls.proofs.ReadingOutcomes.{orRefused, next-outcome}
+use Rattle.calls.proofs.ReadingOutcomes.{next-outcome}
 use Rattle.calls.proofs.Determined.{determined}
 
 -- "Format, new, hold, release, insert and remove write to the arena; no other call does."
@@ -46,6 +46,7 @@ accepted-still (Call.equal s t) ws a ws' e g = g .unchanged
 accepted-still (Call.step d w) ws a ws' e g = g .unchanged
 accepted-still (Call.rescale-mark s) ws a ws' e g = g .unchanged
 accepted-still Call.soundness-test ws a ws' e g = g .unchanged
+accepted-still (Call.difference x) ws a ws' e g = g .unchanged
 
 pub readers-write-nothing : {c : Call} {ws : List ℕ} {a : Answer} {ws' : List ℕ} → effect c ≡ Effect.reads → Outcome c ws a ws' → ws' ≡ ws
 readers-write-nothing {c} {ws} {a} {ws'} e o = go (either o)
@@ -87,11 +88,11 @@ end-stays {d = d} {d' = d'} {w = w} {t = t} {u = u} o x S y e p =
 
 -- What two slots list, as compare and equal see it.
 both : {ws ws' : List ℕ} {s t : ℕ} {x : Sign} → Outcome (Call.compare s t) ws (Answer.sign x) ws' →
-    TellsBoth ws s t (λ xs ys. Answer.sign (Order.compare xs ys)) (Answer.sign x) ws'
+    TellsBoth ws s t (λ xs ys. some (Answer.sign (Order.compare xs ys))) (Answer.sign x) ws'
 both o = answer-accepts o λ r e. let z : _≡_ {A = ℕ} 0 1 = cc in omega arith
 
-both-equal : {ws ws' : List ℕ} {s t : ℕ} {b : Bool} → Outcome (Call.equal s t) ws (Answer.truth b) ws' →
-    TellsBoth ws s t (λ xs ys. Answer.truth (Order.equal xs ys)) (Answer.truth b) ws'
+pub both-equal : {ws ws' : List ℕ} {s t : ℕ} {b : Bool} → Outcome (Call.equal s t) ws (Answer.truth b) ws' →
+    TellsBoth ws s t (λ xs ys. some (Answer.truth (Order.equal xs ys))) (Answer.truth b) ws'
 both-equal o = answer-accepts o λ r e. let z : _≡_ {A = ℕ} 0 1 = cc in omega arith
 
 -- "Equal means compare 0."

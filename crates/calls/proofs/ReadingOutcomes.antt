@@ -9,27 +9,29 @@ use Rattle.trees.specs.Tree.{Entry, Tree, listing, size}
 use Rattle.trees.specs.Listing.{find, firstOf, lastOf}
 use Rattle.trees.specs.Range.{End, next, badRange}
 use Rattle.trees.specs.Order
+use Rattle.trees.specs.Difference.{nextDifference}
 use Rattle.trees.specs.Lookup.{get, first, last, step}
 use Rattle.trees.proofs.Lookups.{size-listing, get-find, first-end, last-end}
 use Rattle.trees.proofs.Ranges.{step-next}
 use Rattle.words.specs.Layout.{nodes, slotSize}
 use Rattle.words.specs.Sound.{Sound, freeNumber}
 use Rattle.calls.specs.Refusal.{Refusal}
-use Rattle.calls.specs.Call.{Walk, Call, Answer}
+use Rattle.calls.specs.Call.{Walk, Differences, Call, Answer}
 use Rattle.calls.specs.Table.{tests}
 use Rattle.calls.specs.Version.{VersionIs}
 use Rattle.calls.specs.Given.{Given}
-use Rattle.calls.specs.Reading.{Tells, TellsBoth, answerBy, valueOf, marked}
+use Rattle.calls.specs.Reading.{Tells, TellsBoth, answerBy, orRefused, valueOf, marked}
 use Rattle.calls.specs.Outcome.{Accepted, Outcome}
 use Rattle.calls.proofs.Versions.{version-fine, version-size}
 use Rattle.calls.proofs.Decisions.{First, refused-outcome, accepted-outcome}
-use Rattle.calls.proofs.Passing.{one-held, not-bad-range, past-version}
-use Rattle.calls.proofs.NoneGiven.{NoneGiven, free-nodes-passed, soundness-test-passed, size-passed, rescale-mark-passed, get-passed, first-passed, last-passed, step-passed, compare-passed, equal-passed}
+use Rattle.calls.proofs.Passing.{one-held, two-held, not-bad-range, past-version}
+use Rattle.calls.proofs.NoneGiven.{NoneGiven, free-nodes-passed, soundness-test-passed, size-passed, rescale-mark-passed, get-passed, first-passed, last-passed, step-passed, compare-passed, equal-passed, difference-passed}
 
--- The answer to a lookup: by what it found, or the refusal.
-abbrev pub orRefused : Refusal → (Entry → Answer) → Option Entry → Answer
-orRefused r f none = Answer.refused r
-orRefused r f (some e) = f e
+-- A call that looks for something, and refuses with r where there is nothing.
+found-or-refused : {A : Type 0} {ws : List ℕ} (c : Call) (r : Refusal) (f : A → Answer) (o : Option A) → (o ≡ none → First ws c r (tests c)) →
+    ((e : A) → o ≡ some e → NoneGiven ws c) → ((e : A) → o ≡ some e → Accepted c ws (f e) ws) → Outcome c ws (orRefused r f o) ws
+found-or-refused c r f none missing passed accepts = refused-outcome (missing refl)
+found-or-refused {ws = ws} c r f (some e) missing passed accepts = accepted-outcome c ws (f e) ws (passed e refl) (accepts e refl)
 
 pub free-nodes-outcome : {ws : List ℕ} (S : Sound ws) → Outcome Call.free-nodes ws (Answer.number (freeNumber S)) ws
 free-nodes-outcome {ws} S =
@@ -76,13 +78,20 @@ module _ {ws : List ℕ} {s : ℕ} {t : Tree} (S : Sound ws) (x : VersionIs ws s
       (rescale-mark-passed S (x .held))
       (tells (ap (λ (y : Bool). some (Answer.truth y)) e))
 
-  -- A call that looks for an entry in the version, and refuses with r where there is none.
+  -- A call that looks for an entry in the version.
   looked : (c : Call) (r : Refusal) (f : Entry → Answer) (look : List Entry → Option Entry) → (look (listing t) ≡ none → First ws c r (tests c)) →
       ((e : Entry) → look (listing t) ≡ some e → NoneGiven ws c) →
       ((a : Answer) → Tells ws s (λ xs. answerBy f (look xs)) a ws → Accepted c ws a ws) → (o : Option Entry) → look (listing t) ≡ o →
       Outcome c ws (orRefused r f o) ws
-  looked c r f look missing passed accepts none e = refused-outcome (missing e)
-  looked c r f look missing passed accepts (some y) e = accepted-outcome c ws (f y) ws (passed y e) (accepts (f y) (tells (ap (answerBy f) e)))
+  looked c r f look missing passed accepts o e =
+      found-or-refused
+      c
+      r
+      f
+      o
+      (λ n. missing (e ∙ n))
+      (λ y s. passed y (e ∙ s))
+      (λ y s. accepts (f y) (tells (ap (answerBy f) (e ∙ s))))
 
   -- By the descents of `get`, `first`, `last`.
   pub get-outcome : (k : ℕ) → Outcome (Call.get s k) ws (orRefused Refusal.absent valueOf (get k t)) ws
@@ -152,8 +161,8 @@ module _ {ws : List ℕ} {w : Walk} {t : Tree} (S : Sound ws) (x : VersionIs ws 
   step-outcome h = stepped-to h (step d (w .range) t) (sym (step-next d (w .range) t (version-fine S x .ordered)))
 
 module _ {ws : List ℕ} {s q : ℕ} {t u : Tree} (S : Sound ws) (x : VersionIs ws s t) (y : VersionIs ws q u) where
-  tells-both : {f : List Entry → List Entry → Answer} → TellsBoth ws s q f (f (listing t) (listing u)) ws
-  tells-both = record { before = S; tree = t; other = u; version = x; other-version = y; answer = refl; unchanged = refl }
+  tells-both : {f : List Entry → List Entry → Option Answer} {a : Answer} → f (listing t) (listing u) ≡ some a → TellsBoth ws s q f a ws
+  tells-both e = record { before = S; tree = t; other = u; version = x; other-version = y; answer = e; unchanged = refl }
 
   pub compare-outcome : Outcome (Call.compare s q) ws (Answer.sign (Order.compare (listing t) (listing u))) ws
   compare-outcome =
@@ -163,7 +172,7 @@ module _ {ws : List ℕ} {s q : ℕ} {t u : Tree} (S : Sound ws) (x : VersionIs 
       (Answer.sign (Order.compare (listing t) (listing u)))
       ws
       (compare-passed S (x .held) (y .held))
-      tells-both
+      (tells-both refl)
 
   pub equal-outcome : Outcome (Call.equal s q) ws (Answer.truth (Order.equal (listing t) (listing u))) ws
   equal-outcome =
@@ -173,4 +182,16 @@ module _ {ws : List ℕ} {s q : ℕ} {t u : Tree} (S : Sound ws) (x : VersionIs 
       (Answer.truth (Order.equal (listing t) (listing u)))
       ws
       (equal-passed S (x .held) (y .held))
-      tells-both
+      (tells-both refl)
+
+pub difference-outcome : {ws : List ℕ} {x : Differences} {t u : Tree} → Sound ws → VersionIs ws (x .first) t → VersionIs ws (x .second) u →
+    Outcome (Call.difference x) ws (orRefused Refusal.ended Answer.difference (nextDifference (x .given) (listing t) (listing u))) ws
+difference-outcome {x = x} {t = t} {u = u} S v w =
+    found-or-refused
+    (Call.difference x)
+    Refusal.ended
+    Answer.difference
+    (nextDifference (x .given) (listing t) (listing u))
+    (λ n. past-version refl S (two-held (v .held) (w .held)) (First.here (Given.no-difference v w n)))
+    (λ d e. difference-passed S v w e)
+    (λ d e. tells-both S v w (ap (answerBy Answer.difference) e))

@@ -62,6 +62,10 @@ module _ {ws ws' : List ℕ} (B : Sees ws ws') (B' : Sees ws' ws) where
       Given.remove-room S' (y .1) (ap (find k) (y .2) ∙ f) (rw (B .free S S', same-size t (y .0) (y .2)) h)
   given-there (Given.ended {d = d} {w = w} {t = t} x e) =
       let y = B .version (w .slot) t x in Given.ended (y .1) (ap (next d (w .range)) (y .2) ∙ e)
+  given-there (Given.no-difference {x = x} {t = t} {u = u} v v' e) =
+      let y = B .version (x .first) t v in
+      let y' = B .version (x .second) u v' in
+      Given.no-difference {x = x} (y .1) (y' .1) (rw (y .2, y' .2) e)
 
   lowest-same : {p q : ℕ} → Lowest ws p → Lowest ws' q → p ≡ q
   lowest-same {p} {q} l m = go (decLt p q) (decLt q p)
@@ -85,9 +89,14 @@ module _ {ws ws' : List ℕ} (B : Sees ws ws') (B' : Sees ws' ws) where
         let y = h .answer in
         cc
 
-    both-same : {s t : ℕ} {f : List Entry → List Entry → Answer} → TellsBoth ws s t f a w → TellsBoth ws' s t f b w' → a ≡ b
-    both-same g h =
-        g .answer ∙ rw (listings (g .version) (h .version), listings (g .other-version) (h .other-version)) (sym (h .answer))
+    both-same : {s t : ℕ} {f : List Entry → List Entry → Option Answer} → TellsBoth ws s t f a w → TellsBoth ws' s t f b w' → a ≡ b
+    both-same {f = f} g h =
+        let d = listings (g .version) (h .version) in
+        let e = listings (g .other-version) (h .other-version) in
+        let z : f (listing (g .tree)) (listing (g .other)) ≡ f (listing (h .tree)) (listing (h .other)) = rw (d, e) in
+        let x = g .answer in
+        let y = h .answer in
+        cc
 
     sound-same : TellsSound ws a w → TellsSound ws' b w' → a ≡ b
     sound-same g h = go (g .answer) (h .answer)
@@ -120,6 +129,7 @@ module _ {ws ws' : List ℕ} (B : Sees ws ws') (B' : Sees ws' ws) where
   accepted-same (Call.step d x) a b w w' g h = tells-same g h
   accepted-same (Call.rescale-mark s) a b w w' g h = tells-same g h
   accepted-same Call.soundness-test a b w w' g h = sound-same g h
+  accepted-same (Call.difference x) a b w w' g h = both-same g h
 
 first-there : {ws ws' : List ℕ} {c : Call} {r : Refusal} {rs : List Refusal} → Sees ws ws' → Sees ws' ws → First ws c r rs → First ws' c r rs
 first-there B B' (First.here g) = First.here (given-there B B' g)

@@ -13,6 +13,7 @@ use Rattle.trees.specs.Tree.{Entry, Tree, leaf, listing}
 use Rattle.trees.specs.Listing.{find, firstOf, lastOf, cut}
 use Rattle.trees.specs.Edit.{Edit, setting, cutting, edited}
 use Rattle.trees.specs.Range.{next}
+use Rattle.trees.specs.Difference.{nextDifference}
 use Rattle.trees.proofs.Edits.{listing-edit}
 use Rattle.words.specs.Layout.{slotRoot}
 use Rattle.words.specs.Sound.{Sound}
@@ -120,13 +121,13 @@ module _ {ws ws' : List ℕ} {m : Model} {a : Answer} (K : Keeps ws m) where
   still : (c : Call) (b : Answer) → after c b m ≡ m → a ≡ b → ws' ≡ ws → Keeps ws' (after c a m)
   still c b p e w = rw (w, e, p) K
 
-  found-keeps : (c : Call) (f : Entry → Answer) → ((e : Entry) → after c (f e) m ≡ m) → (o : Option Entry) → answerBy f o ≡ some a → ws' ≡ ws →
+  found-keeps : {A : Type 0} (c : Call) (f : A → Answer) → ((e : A) → after c (f e) m ≡ m) → (o : Option A) → answerBy f o ≡ some a → ws' ≡ ws →
       Keeps ws' (after c a m)
   found-keeps c f p none e w = absurd (let z : _≡_ {A = ℕ} 0 1 = cc in omega arith)
   found-keeps c f p (some x) e w = still c (f x) (p x) (cc) w
 
-  both-keeps : (c : Call) (b : Answer) → after c b m ≡ m → some b ≡ some a → ws' ≡ ws → Keeps ws' (after c a m)
-  both-keeps c b p e w = still c b p (cc) w
+  told-keeps : (c : Call) (b : Answer) → after c b m ≡ m → some b ≡ some a → ws' ≡ ws → Keeps ws' (after c a m)
+  told-keeps c b p e w = still c b p (cc) w
 
 pub formatted-keeps : {n v : ℕ} {ws ws' : List ℕ} {a : Answer} → Formatted n v ws a ws' → Keeps ws' (noVersions n v)
 formatted-keeps {ws' = ws'} f =
@@ -146,22 +147,31 @@ accepted-keeps (Call.hold s) ws ws' m a K g =
     holds-keeps K (Call.hold s) x (model-has K x) g
 accepted-keeps (Call.release s) ws ws' m a K g =
     rw (g .answer) (slot-keeps (released-one g) K none λ h. h .held (ap (λ (n : ℕ). slotRoot n ws' s) (same-nodes (g .others)) ∙ g .root-is))
-accepted-keeps (Call.size s) ws ws' m a K g = both-keeps K (Call.size s) _ refl (g .answer) (g .unchanged)
+accepted-keeps (Call.size s) ws ws' m a K g = told-keeps K (Call.size s) _ refl (g .answer) (g .unchanged)
 accepted-keeps Call.free-nodes ws ws' m a K g = still K Call.free-nodes _ refl (g .answer) (g .unchanged)
 accepted-keeps (Call.get s k) ws ws' m a K g = found-keeps K (Call.get s k) valueOf (λ e. refl) (find k (listing (g .tree))) (g .answer) (g .unchanged)
 accepted-keeps (Call.first s) ws ws' m a K g = found-keeps K (Call.first s) Answer.entry (λ e. refl) (firstOf (listing (g .tree))) (g .answer) (g .unchanged)
 accepted-keeps (Call.last s) ws ws' m a K g = found-keeps K (Call.last s) Answer.entry (λ e. refl) (lastOf (listing (g .tree))) (g .answer) (g .unchanged)
 accepted-keeps (Call.insert s e) ws ws' m a K g = edited-keeps K (Call.insert s e) {s = s} {d = setting e} refl g
 accepted-keeps (Call.remove s k) ws ws' m a K g = removed-keeps K g
-accepted-keeps (Call.compare s t) ws ws' m a K g = still K (Call.compare s t) _ refl (g .answer) (g .unchanged)
-accepted-keeps (Call.equal s t) ws ws' m a K g = still K (Call.equal s t) _ refl (g .answer) (g .unchanged)
+accepted-keeps (Call.compare s t) ws ws' m a K g = told-keeps K (Call.compare s t) _ refl (g .answer) (g .unchanged)
+accepted-keeps (Call.equal s t) ws ws' m a K g = told-keeps K (Call.equal s t) _ refl (g .answer) (g .unchanged)
 accepted-keeps (Call.step d w) ws ws' m a K g = found-keeps K (Call.step d w) Answer.entry (λ e. refl) (next d (w .range) (listing (g .tree))) (g .answer) (g .unchanged)
-accepted-keeps (Call.rescale-mark s) ws ws' m a K g = both-keeps K (Call.rescale-mark s) _ refl (g .answer) (g .unchanged)
+accepted-keeps (Call.rescale-mark s) ws ws' m a K g = told-keeps K (Call.rescale-mark s) _ refl (g .answer) (g .unchanged)
 accepted-keeps Call.soundness-test ws ws' m a K g =
     ⊎-elim
     (λ x. still K Call.soundness-test (Answer.truth true) refl (x .1) (g .unchanged))
     (λ x. still K Call.soundness-test (Answer.truth false) refl (x .1) (g .unchanged))
     (g .answer)
+accepted-keeps (Call.difference x) ws ws' m a K g =
+    found-keeps
+    K
+    (Call.difference x)
+    Answer.difference
+    (λ d. refl)
+    (nextDifference (x .given) (listing (g .tree)) (listing (g .other)))
+    (g .answer)
+    (g .unchanged)
 
 -- Accepted or refused.
 pub step-keeps : {c : Call} {ws ws' : List ℕ} {m : Model} {a : Answer} → Keeps ws m → Outcome c ws a ws' → Keeps ws' (after c a m)

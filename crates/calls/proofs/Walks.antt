@@ -13,29 +13,18 @@ use Rattle.trees.specs.Tree.{Entry}
 use Rattle.trees.specs.Listing.{Above, Ascending, firstOf, lastOf, orElse}
 use Rattle.trees.specs.Range.{End, front, back, Range, fromStart, toEnd, past, afterFront, beforeBack, remains, keep, next, stepped}
 use Rattle.trees.proofs.Ranges.{after-front-up, before-back-down}
+use Rattle.trees.proofs.Kept.{above-keep, first-taken}
 use Rattle.trees.proofs.Extremes.{next-answers, Answers}
 use Rattle.calls.specs.Walking.{remaining, Walked}
 
 -- The entries of a listing that pass keep its order.
-above-keep : (p : Entry → Bool) (k : ℕ) (xs : List Entry) → Above k xs → Above k (keep p xs)
-above-keep p k [] a = tt
-above-keep p k (x ∷ xs) a = go (p x) (above-keep p k xs (a .1))
-  where
-    go : (b : Bool) → Above k (keep p xs) → Above k (if b then x ∷ keep p xs else keep p xs)
-    go true r = (a .0, r)
-    go false r = r
-
 pub ascending-keep : (p : Entry → Bool) (xs : List Entry) → Ascending xs → Ascending (keep p xs)
 ascending-keep p [] a = tt
 ascending-keep p (x ∷ xs) a = go (p x) (ascending-keep p xs (a .1))
   where
     go : (b : Bool) → Ascending (keep p xs) → Ascending (if b then x ∷ keep p xs else keep p xs)
-    go true r = (above-keep p (x .key) xs (a .0), r)
+    go true r = (above-keep (λ (e : Entry). e .key) p (x .key) xs (a .0), r)
     go false r = r
-
-first-above : (k : ℕ) (xs : List Entry) (e : Entry) → Above k xs → firstOf xs ≡ some e → k < e .key
-first-above k [] e a h = absurd (let z : _≡_ {A = ℕ} 0 1 = cc in omega arith)
-first-above k (x ∷ xs) e a h = let z : x ≡ e = cc in subst (λ (y : Entry). k < y .key) z (a .0)
 
 last-above : (k : ℕ) (xs : List Entry) (e : Entry) → Above k xs → lastOf xs ≡ some e → k < e .key
 last-above k [] e a h = absurd (let z : _≡_ {A = ℕ} 0 1 = cc in omega arith)
@@ -44,11 +33,6 @@ last-above k (x ∷ xs) e a h = go (lastOf xs) h (last-above k xs e (a .1))
     go : (o : Option Entry) → orElse o x ≡ some e → (o ≡ some e → k < e .key) → k < e .key
     go none h ih = let z : x ≡ e = cc in subst (λ (y : Entry). k < y .key) z (a .0)
     go (some f) h ih = ih h
-
--- Where every key is above k, two tests that agree above k keep the same.
-keep-same : (p p' : Entry → Bool) (k : ℕ) (xs : List Entry) → Above k xs → ((y : Entry) → k < y .key → p' y ≡ p y) → keep p' xs ≡ keep p xs
-keep-same p p' k [] a f = refl
-keep-same p p' k (x ∷ xs) a f = rw (f x (a .0), keep-same p p' k xs (a .1) f)
 
 keep-none : (p : Entry → Bool) (k : ℕ) (xs : List Entry) → Above k xs → ((y : Entry) → k < y .key → p y ≡ false) → keep p xs ≡ []
 keep-none p k [] a f = refl
@@ -66,31 +50,15 @@ last-none (x ∷ xs) h = absurd (go (lastOf xs) h)
     go none h = let z : _≡_ {A = ℕ} 0 1 = cc in omega arith
     go (some f) h = let z : _≡_ {A = ℕ} 0 1 = cc in omega arith
 
--- The first that passes is taken out by a test that passes what comes after it only.
+-- The last that passes is taken out by a test that passes what comes before it only.
 module _ (p p' : Entry → Bool) (e : Entry) where
-  first-taken : (xs : List Entry) → Ascending xs → ((y : Entry) → e .key < y .key → p' y ≡ p y) → ((y : Entry) → y .key ≤ e .key → p' y ≡ false) →
-      firstOf (keep p xs) ≡ some e → keep p xs ≡ e ∷ keep p' xs
-  first-taken [] a f g h = absurd (let z : _≡_ {A = ℕ} 0 1 = cc in omega arith)
-  first-taken (x ∷ xs) a f g h = go (p x) h (first-taken xs (a .1) f g)
-    where
-      go : (b : Bool) → firstOf (if b then x ∷ keep p xs else keep p xs) ≡ some e → (firstOf (keep p xs) ≡ some e → keep p xs ≡ e ∷ keep p' xs) →
-          (if b then x ∷ keep p xs else keep p xs) ≡ e ∷ (if p' x then x ∷ keep p' xs else keep p' xs)
-      go true h ih =
-          let z : x ≡ e = cc in
-          let k = ap (λ (y : Entry). y .key) z in
-          rw (g x (omega arith), keep-same p p' (e .key) xs (subst (λ (y : Entry). Above (y .key) xs) z (a .0)) f) (ap (λ (y : Entry). y ∷ keep p xs) z)
-      go false h ih =
-          let l = first-above (x .key) (keep p xs) e (above-keep p (x .key) xs (a .0)) h in
-          rw (g x (omega arith)) (ih h)
-
-  -- The last that passes, by a test that passes what comes before it only.
   last-taken : (xs : List Entry) → Ascending xs → ((y : Entry) → y .key < e .key → p' y ≡ p y) → ((y : Entry) → e .key ≤ y .key → p' y ≡ false) →
       lastOf (keep p xs) ≡ some e → keep p xs ≡ keep p' xs ++ (e ∷ [])
   last-taken [] a f g h = absurd (let z : _≡_ {A = ℕ} 0 1 = cc in omega arith)
   last-taken (x ∷ xs) a f g h = go (p x) refl h (last-taken xs (a .1) f g)
     where
       before : lastOf (keep p xs) ≡ some e → x .key < e .key
-      before q = last-above (x .key) (keep p xs) e (above-keep p (x .key) xs (a .0)) q
+      before q = last-above (x .key) (keep p xs) e (above-keep (λ (y : Entry). y .key) p (x .key) xs (a .0)) q
 
       only : (o : Option Entry) → lastOf (keep p xs) ≡ o → p x ≡ true → orElse o x ≡ some e →
           (lastOf (keep p xs) ≡ some e → keep p xs ≡ keep p' xs ++ (e ∷ [])) →
@@ -146,7 +114,7 @@ module _ (w : Range) (xs : List Entry) (e : Entry) (a : Ascending xs) where
   pub front-takes : next front w xs ≡ some e → remaining w xs ≡ e ∷ remaining (stepped front w e) xs
   front-takes h =
       let t = next-passes front w xs e a h in
-      first-taken (remains w) (remains (stepped front w e)) e xs a (front-past w e t) (front-gone w e t) h
+      first-taken (λ (y : Entry). y .key) (remains w) (remains (stepped front w e)) e xs a (front-past w e t) (front-gone w e t) h
 
   pub back-takes : next back w xs ≡ some e → remaining w xs ≡ remaining (stepped back w e) xs ++ (e ∷ [])
   back-takes h =

@@ -29,3 +29,4 @@ effect (Call.equal s t) = Effect.reads
 effect (Call.step d w) = Effect.reads
 effect (Call.rescale-mark s) = Effect.reads
 effect Call.soundness-test = Effect.reads
+effect (Call.difference x) = Effect.reads

@@ -10,12 +10,13 @@ use Rattle.heights.specs.Height.{insertReserve, removeReserve}
 use Rattle.trees.specs.Tree.{Entry, Tree, listing, size}
 use Rattle.trees.specs.Listing.{find, firstOf, lastOf}
 use Rattle.trees.specs.Range.{End, next, badRange}
+use Rattle.trees.specs.Difference.{nextDifference}
 use Rattle.words.specs.Layout.{slots}
 use Rattle.words.specs.Counting.{occ}
 use Rattle.words.specs.Reads.{Held}
 use Rattle.words.specs.Sound.{Limits, Sound, freeNumber}
 use Rattle.calls.specs.Refusal.{Refusal}
-use Rattle.calls.specs.Call.{Walk, Call}
+use Rattle.calls.specs.Call.{Walk, Differences, Call}
 use Rattle.calls.specs.Table.{slotsOf}
 use Rattle.calls.specs.Version.{VersionIs}
 
@@ -42,6 +43,8 @@ pub data Given (ws : List ℕ) : Refusal → Call → Type 0 where
   -- the version does not have the key"
   remove-room : {s k : ℕ} {t : Tree} {e : Entry} (S : Sound ws) → VersionIs ws s t → find k (listing t) ≡ some e →
       freeNumber S < removeReserve (size t) → Given ws Refusal.no-room (Call.remove s k)
-  -- RULES 4.29: "a walk step: no entry remains"
+  -- RULES 4.29: "a walk step: no entry remains", "a difference step: no difference is left"
   ended : {d : End} {w : Walk} {t : Tree} → VersionIs ws (w .slot) t → next d (w .range) (listing t) ≡ none →
       Given ws Refusal.ended (Call.step d w)
+  no-difference : {x : Differences} {t u : Tree} → VersionIs ws (x .first) t → VersionIs ws (x .second) u →
+      nextDifference (x .given) (listing t) (listing u) ≡ none → Given ws Refusal.ended (Call.difference x)

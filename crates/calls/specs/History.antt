@@ -65,6 +65,7 @@ after c (Answer.value x) m = m
 after c (Answer.entry e) m = m
 after c (Answer.sign x) m = m
 after c (Answer.truth b) m = m
+after c (Answer.difference d) m = m
 
 -- RULES 14.4: "any calls, also refused ones", one after the other.
 pub data Calls (ws : List ℕ) (m : Model) : List ℕ → Model → Type 0 where

@@ -9,4 +9,5 @@ pub mod Writing
 pub mod Outcome
 pub mod History
 pub mod Walking
+pub mod Auditing
 pub mod Alike

@@ -1,5 +1,5 @@
--- RULES 4.1 to 4.16, 4.18, 4.30: which slots a call names, and which refusals it tests, in which
--- order.
+-- RULES 4.1 to 4.16, 4.18, 4.30, 4.41: which slots a call names, and which refusals it tests, in
+-- which order.
 use mathlib.Core.List.{List, [], _∷_}
 use Prim.Native.Nat.{ℕ}
 use Rattle.calls.specs.Refusal.{Refusal}
@@ -23,8 +23,9 @@ slotsOf (Call.equal s t) = s ∷ (t ∷ [])
 slotsOf (Call.step d w) = w .slot ∷ []
 slotsOf (Call.rescale-mark s) = s ∷ []
 slotsOf Call.soundness-test = []
+slotsOf (Call.difference x) = x .first ∷ (x .second ∷ [])
 
--- RULES 4.1 to 4.16, the column "tests"; RULES 4.18: "in the order of the table".
+-- RULES 4.1 to 4.16 and 4.41, the column "tests"; RULES 4.18: "in the order of the table".
 abbrev pub tests : Call → List Refusal
 tests (Call.format n v) = Refusal.bad-shape ∷ []
 tests Call.new = Refusal.unsound ∷ (Refusal.no-slot ∷ [])
@@ -42,3 +43,4 @@ tests (Call.equal s t) = Refusal.unsound ∷ (Refusal.no-version ∷ [])
 tests (Call.step d w) = Refusal.unsound ∷ (Refusal.no-version ∷ (Refusal.bad-range ∷ (Refusal.ended ∷ [])))
 tests (Call.rescale-mark s) = Refusal.unsound ∷ (Refusal.no-version ∷ [])
 tests Call.soundness-test = []
+tests (Call.difference x) = Refusal.unsound ∷ (Refusal.no-version ∷ (Refusal.ended ∷ []))

@@ -13,13 +13,15 @@ use Rattle.heights.specs.Height.{insertReserve, removeReserve}
 use Rattle.trees.specs.Tree.{Entry, Tree, leaf, listing, size, made}
 use Rattle.trees.specs.Listing.{find}
 use Rattle.trees.specs.Range.{End, Range, next, badRange}
+use Rattle.trees.specs.Difference.{nextDifference}
 use Rattle.trees.specs.Edit.{Edit, setting, cutting, edit}
 use Rattle.words.specs.Layout.{slots}
 use Rattle.words.specs.Reads.{Held}
 use Rattle.words.specs.Sound.{Limits, Sound, freeNumber}
 use Rattle.words.specs.Fresh.{wasFree}
 use Rattle.calls.specs.Refusal.{Refusal}
-use Rattle.calls.specs.Call.{Walk, Call, Answer}
+use Rattle.calls.specs.Reading.{orRefused}
+use Rattle.calls.specs.Call.{Walk, Differences, Call, Answer}
 use Rattle.calls.specs.Effect.{Effect, effect}
 use Rattle.calls.specs.Version.{VersionIs, Lowest}
 use Rattle.calls.specs.Writing.{Formatted, HandsOutRoot, Edited, Removed}
@@ -31,7 +33,7 @@ use Rattle.calls.proofs.Formatting.{format-sound, format-free, format-not-held}
 use Rattle.calls.proofs.FormatExists.{format-exists}
 use Rattle.calls.proofs.Histories.{answer-accepts, answer-refuses}
 use Rattle.calls.proofs.Determined.{determined}
-use Rattle.calls.proofs.ReadingOutcomes.{orRefused, free-nodes-outcome, size-outcome, bad-range-outcome, next-outcome}
+use Rattle.calls.proofs.ReadingOutcomes.{free-nodes-outcome, size-outcome, bad-range-outcome, next-outcome, difference-outcome}
 use Rattle.calls.proofs.ReadingLaws.{readers-write-nothing}
 use Rattle.calls.proofs.WritingOutcomes.{new-outcome, insert-full, remove-full}
 use Rattle.calls.proofs.Taken.{takes}
@@ -105,6 +107,12 @@ play st (Call.equal s t) = none
 play st (Call.step d w) = when (ltb (w .slot) (st .held)) (some (told st (walked d (w .range) (listing (st .trees (w .slot))))))
 play st (Call.rescale-mark s) = none
 play st Call.soundness-test = none
+play st (Call.difference x) =
+    let t = st .trees (x .first) in
+    let u = st .trees (x .second) in
+    when
+    (ltb (x .first) (st .held))
+    (when (ltb (x .second) (st .held)) (some (told st (orRefused Refusal.ended Answer.difference (nextDifference (x .given) (listing t) (listing u))))))
 
 -- After a format all nodes are free and no slot is held.
 abbrev pub start : ℕ → ℕ → State
@@ -301,6 +309,21 @@ module _ {ws : List ℕ} {st : State} (K : Shows ws st) where
       go true q = bad-range-outcome (K .sound) x d q
       go false q = next-outcome (K .sound) x d q
 
+  difference-plays : (x : Differences) → x .first < st .held → x .second < st .held →
+      Agrees
+      (Call.difference x)
+      ws
+      (told
+      st
+      (orRefused Refusal.ended Answer.difference (nextDifference (x .given) (listing (st .trees (x .first))) (listing (st .trees (x .second))))))
+  difference-plays x p q =
+      let answers : List Entry → List Entry → Type 0 =
+      λ xs ys. Outcome (Call.difference x) ws (orRefused Refusal.ended Answer.difference (nextDifference (x .given) xs ys)) ws in
+      let o = difference-outcome (K .sound) (K .shown (x .first) p .version) (K .shown (x .second) q .version) in
+      let one : answers (listing (st .trees (x .first))) (listing (K .shown (x .second) q .tree)) =
+      subst (λ xs. answers xs (listing (K .shown (x .second) q .tree))) (listing-is (x .first) p) o in
+      reads-agrees K refl (subst (λ ys. answers (listing (st .trees (x .first))) ys) (listing-is (x .second) q) one)
+
   size-plays : (s : ℕ) → s < st .held → Agrees (Call.size s) ws (told st (Answer.number (size (st .trees s))))
   size-plays s p =
       let x = K .shown s p .version in
@@ -349,3 +372,4 @@ module _ {ws : List ℕ} {st : State} (K : Shows ws st) where
   plays (Call.step d w) p e = under (w .slot) (st .held) e (λ h e. only e (step-plays d w h))
   plays (Call.rescale-mark s) p e = never e
   plays Call.soundness-test p e = never e
+  plays (Call.difference x) p e = under (x .first) (st .held) e (λ h e. under (x .second) (st .held) e (λ l e. only e (difference-plays x h l)))

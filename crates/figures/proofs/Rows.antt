@@ -10,6 +10,7 @@ use borrow.Author.Tests.{ltb-true, leb-true}
 use Rattle.heights.specs.Choice.{if_then_else_}
 use Rattle.heights.specs.Height.{lgUpTo, lg, H}
 use Rattle.trees.specs.Lookup.{has}
+use Rattle.trees.specs.Difference.{differences}
 use Rattle.trees.specs.Insert.{balance, ins, insert}
 use Rattle.trees.specs.Remove.{removeBalance, removeBalanceLeft, removeBalanceRight, join, fuseNode, fuse, delLeft, delRight, del, remove}
 use Rattle.words.specs.Layout.{maxNodes, maxSlots, arenaWords}
@@ -90,5 +91,5 @@ claims (height n h ∷ rs) e = (cc, claims rs (cc))
 claims (run n v xs ∷ rs) e = (run-claim n v xs (cc), claims rs (cc))
 
 pub figures : All Claim table
-unfolding H lg lgUpTo has balance ins insert removeBalance removeBalanceLeft removeBalanceRight join fuseNode fuse delLeft delRight del remove
+unfolding H lg lgUpTo has differences balance ins insert removeBalance removeBalanceLeft removeBalanceRight join fuseNode fuse delLeft delRight del remove
 figures = claims table refl

@@ -2,12 +2,13 @@
 -- runs the others.
 use mathlib.Core.Path.{_≡_}
 use mathlib.Core.List.{List, [], _∷_}
-use mathlib.Core.Option.{none}
+use mathlib.Core.Option.{Option, none, some}
 use Prim.Native.Nat.{ℕ, _*_}
 use lib.ListN.{length}
 use Rattle.heights.specs.Height.{H}
 use Rattle.trees.specs.Tree.{Entry, black, kept, Tree, leaf, node}
 use Rattle.trees.specs.Range.{Bound, included, excluded, unbounded, End, front, back, Range, stepped}
+use Rattle.trees.specs.Difference.{Difference, only-first, only-second, in-both}
 use Rattle.words.specs.Layout.{arenaWords}
 use Rattle.calls.specs.Refusal.{Refusal}
 use Rattle.calls.specs.Call.{Call, Answer}
@@ -96,6 +97,24 @@ fives = between (included 5) (included 5)
 abbrev onFive : List Step → Row
 onFive xs = run 10 32 (new ∷ set 0 5 1 ∷ xs)
 
+-- What differs next between the slots s and t above the last key given.
+abbrev audit : (s t : ℕ) → Option ℕ → Call
+audit s t o = Call.difference (record { first = s; second = t; given = o })
+
+abbrev differs : Call → Difference → Step
+differs c d = asks c (Answer.difference d)
+
+abbrev other3 : Entry
+other3 = record { key = 3; value = 31 }
+
+-- 1, 2, 3 in slot 3 and 2, 3, 4 in slot 6, where 3 has another value, then these steps.
+abbrev onBoth : List Step → Row
+onBoth xs =
+    run
+    20
+    32
+    (new ∷ set 0 1 1 ∷ set 1 2 2 ∷ set 2 3 3 ∷ set 0 2 4 ∷ asks (Call.insert 4 other3) (Answer.slot 5) ∷ set 5 4 6 ∷ xs)
+
 -- A black node.
 abbrev B : Tree → ℕ → Tree → Tree
 B l k r = node (kept 0) black l (e k) r
@@ -137,4 +156,13 @@ table =
     -- RULES 10.13: "from 5 included to 5 included: the entry 5, and END after it."
     onFive (gives (walk 1 front fives) 5 ∷ ends (walk 1 front (stepped front fives (e 5))) ∷ []) ∷
     onFive (gives (walk 1 back fives) 5 ∷ ends (walk 1 back (stepped back fives (e 5))) ∷ []) ∷
+    -- RULES 10.15: "1 only in the first; 3 in both, with 30 and 31; 4 only in the second; END."
+    onBoth
+    (differs (audit 3 6 none) (only-first (e 1)) ∷
+    differs (audit 3 6 (some 1)) (in-both (e 3) other3) ∷
+    differs (audit 3 6 (some 3)) (only-second (e 4)) ∷
+    ends (audit 3 6 (some 4)) ∷ []) ∷
+    -- RULES 10.16: "the first twice: END at once; with the empty version: 3 only in the first,
+    -- above 2."
+    onBoth (ends (audit 3 3 none) ∷ differs (audit 3 0 (some 2)) (only-first (e 3)) ∷ []) ∷
     []

@@ -34,6 +34,7 @@ accepted-zero (Answer.value x) n = refl
 accepted-zero (Answer.entry e) n = refl
 accepted-zero (Answer.sign d) n = refl
 accepted-zero (Answer.truth b) n = refl
+accepted-zero (Answer.difference d) n = refl
 
 -- The first refusal that is due, and no lent word was changed.
 pub record Refuses (c : Call) (ws out : List ℕ) (r : ℕ) (ws' out' : List ℕ) : Type 0 where

@@ -1,4 +1,4 @@
--- What the C function of a call leaves and gives: RULES 9.18 to 9.20.
+-- What the C function of a call leaves and gives: RULES 9.18 to 9.22.
 use mathlib.Core.List.{List}
 use Prim.Native.Nat.{ℕ}
 use Rattle.calls.specs.Call.{Call, Answer}

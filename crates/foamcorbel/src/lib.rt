@@ -1,9 +1,11 @@
-// The calls of RULES 4.1 to 4.16 as C functions (RULES 9.18 to 9.20, 13.13), which
+// The calls of RULES 4.1 to 4.16 and 4.41 as C functions (RULES 9.18 to 9.22, 13.13), which
 // include/foamcorbel.h declares: any words, slots, keys and walks may come in (RULES 14.1). The
 // result is the refusal's number, 0 when accepted; values go to the words lent as `out`, which a
 // refusal leaves as they were.
 use answers::TruthAnswer;
 use arena::Entry;
+use passing::differences::differences_in;
+use passing::differences::pass_difference;
 use passing::pass_done;
 use passing::pass_entry;
 use passing::pass_number;
@@ -17,6 +19,7 @@ ghost use Rattle.trees.specs.Range.{front as atFront, back as atBack};
 ghost use Rattle.calls.specs.Call.{Call};
 ghost use Rattle.foamcorbel.specs.Gives.{Gives};
 ghost use Rattle.passing.specs.Walks.{walkIn};
+ghost use Rattle.passing.specs.Differences.{differencesIn};
 
 // Records N and V, makes all nodes free and no slot held. Any old contents will do.
 #[no_mangle]
@@ -158,4 +161,16 @@ pub extern "C" fn foamcorbel_sound(ws: &[u32], out: &mut [u32; 1]) -> u32
     ensures { λ r. ⌜ Gives Call.soundness-test (now (ws .entry)) (now (out .entry)) r (now (ws .entry)) (now (out .exit)) ⌝ }
 {
     pass_truth(TruthAnswer::Truth(red_black_tree_map::sound(ws)), out)
+}
+
+// What differs next between two versions: the kind, the key and the two values. The caller keeps
+// the key for the next step.
+#[no_mangle]
+pub extern "C" fn foamcorbel_step_difference(ws: &[u32], at: &[u32; 4], out: &mut [u32; 4]) -> u32
+    ensures { λ r. ⌜ Gives (Call.difference (differencesIn (now (at .entry)))) (now (ws .entry)) (now (out .entry)) r (now (ws .entry)) (now (out .exit)) ⌝ }
+{
+    pass_difference(
+        red_black_tree_map::step_difference(ws, differences_in(at)),
+        out,
+    )
 }

@@ -60,6 +60,7 @@ entry-written k v (Answer.value x) h = absurd (impossible (cc))
 entry-written k v (Answer.entry e) h = (e, refl, cc)
 entry-written k v (Answer.sign d) h = absurd (impossible (cc))
 entry-written k v (Answer.truth b) h = absurd (impossible (cc))
+entry-written k v (Answer.difference d) h = absurd (impossible (cc))
 
 -- So a line that is an entry is what an accepted step told.
 told : {w : Walk} {ws ws' : List ℕ} {r : Reply} {k v : ℕ} → Replies (Call.step front w) ws r ws' → r ≡ Reply.Entry k v →

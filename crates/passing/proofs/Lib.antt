@@ -1,2 +1,3 @@
 pub mod AnswersPassed
 pub mod WalkRead
+pub mod DifferencesPassed

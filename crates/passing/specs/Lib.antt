@@ -1,2 +1,3 @@
-pub mod Results
 pub mod Walks
+pub mod Differences
+pub mod Results

@@ -1,4 +1,6 @@
-// What crosses to C: each kind of answer as a result and values in lent words, and a walk from nine of them.
+// What crosses to C: each kind of answer as a result and values in lent words, and what the caller
+// keeps of a walk or of an audit, from such words.
+pub mod differences;
 pub mod walks;
 
 use answers::EntryAnswer;

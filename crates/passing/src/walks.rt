@@ -26,7 +26,7 @@ fn bound_in(kind: u32, key: u32) -> Bound
 }
 
 // 0 is "not given".
-fn last_in(given: u32, key: u32) -> LastKey
+pub fn last_in(given: u32, key: u32) -> LastKey
     ensures { λ r. ⌜ lastOf r ≡ lastIn given key ⌝ }
 {
     if given == 0 {

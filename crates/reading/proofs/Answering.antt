@@ -17,10 +17,10 @@ use Rattle.lookup.specs.declared.Found.the-variants.{At, Nothing}
 use Rattle.lookup.specs.Finding.{foundOf, Finds}
 use Rattle.calls.specs.Refusal as calls
 use Rattle.calls.specs.Call as call
-use Rattle.calls.specs.Reading.{valueOf, rescaleSlope}
+use Rattle.calls.specs.Reading.{valueOf, rescaleSlope, orRefused}
 use Rattle.calls.specs.Outcome.{Outcome}
 use Rattle.calls.proofs.Versions.{version-of, version-fine}
-use Rattle.calls.proofs.ReadingOutcomes.{orRefused, size-outcome, rescale-mark-outcome, get-outcome, first-outcome, last-outcome}
+use Rattle.calls.proofs.ReadingOutcomes.{size-outcome, rescale-mark-outcome, get-outcome, first-outcome, last-outcome}
 use Rattle.answers.specs.declared.Refusal.{Refusal}
 use Rattle.answers.specs.declared.Entered.{Entered}
 use Rattle.answers.specs.Answers.{refusalOf}

@@ -1,5 +1,6 @@
 // The public calls, RULES 4: any words, slots, keys and ranges may come in. Each call tests the
 // arena and then does what the table says.
+use answers::DifferenceAnswer;
 use answers::EntryAnswer;
 use answers::NumberAnswer;
 use answers::Refusal;
@@ -7,6 +8,7 @@ use answers::SignAnswer;
 use answers::TruthAnswer;
 use answers::ValueAnswer;
 use arena::Entry;
+use differing::Differences;
 use soundness::Tested;
 use soundness::test;
 use versions::DoneAnswer;
@@ -16,7 +18,8 @@ ghost use Rattle.trees.specs.Range.{front as atFront, back as atBack};
 ghost use Rattle.arena.specs.Nodes.{entryOf};
 ghost use Rattle.calls.specs.Call.{Call, Answer};
 ghost use Rattle.calls.specs.Outcome.{Outcome};
-ghost use Rattle.answers.specs.Answers.{numberAnswer, valueAnswer, entryAnswer, truthAnswer, signAnswer};
+ghost use Rattle.answers.specs.Answers.{numberAnswer, valueAnswer, entryAnswer, truthAnswer, signAnswer, differenceAnswer};
+ghost use Rattle.differing.specs.Positions.{differencesOf};
 ghost use Rattle.walking.specs.Walks.{walkOf};
 ghost use Rattle.versions.specs.Slots.{slotAnswer, doneAnswer};
 
@@ -190,4 +193,14 @@ pub fn sound(ws: &[u32]) -> bool
         Tested::Sound(_) => true,
         Tested::Unsound => false,
     }
+}
+
+// What differs next between two versions, above the last key given.
+pub fn step_difference(ws: &[u32], x: Differences) -> DifferenceAnswer
+    ensures { λ r. ⌜ Outcome (Call.difference (differencesOf x)) (now (ws .entry)) (differenceAnswer r) (now (ws .entry)) ⌝ }
+{
+    let Tested::Sound(_) = test(ws) else {
+        return DifferenceAnswer::Refused(Refusal::Unsound);
+    };
+    differing::step_difference(ws, x)
 }

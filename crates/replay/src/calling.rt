@@ -1,4 +1,5 @@
 // Makes the call of a line, LENGTH CODE ARGUMENTS.. STATUS VALUES.., and says whether its answer is the line's.
+use super::expected::difference_there;
 use super::expected::done_there;
 use super::expected::entry_at;
 use super::expected::entry_there;
@@ -9,6 +10,8 @@ use super::expected::truth_there;
 use super::expected::value_there;
 use super::listing::listed;
 use super::numbers::NUMBERS;
+use differing::Differences;
+use passing::differences::differences_in;
 use passing::walks::walk_in;
 use red_black_tree_map::compare;
 use red_black_tree_map::equal;
@@ -23,6 +26,7 @@ use red_black_tree_map::remove;
 use red_black_tree_map::rescale_mark;
 use red_black_tree_map::size;
 use red_black_tree_map::step_back;
+use red_black_tree_map::step_difference;
 use red_black_tree_map::step_front;
 use walking::Walk;
 
@@ -57,6 +61,8 @@ const RESCALE_MARK: u32 = 14;
 
 const LIST: u32 = 15;
 
+const STEP_DIFFERENCE: u32 = 16;
+
 // The walk of the line: nine numbers from the slot on.
 fn walk_of(line: &[u32; NUMBERS]) -> Walk {
     let w = [
@@ -71,6 +77,12 @@ fn walk_of(line: &[u32; NUMBERS]) -> Walk {
         line[10],
     ];
     walk_in(&w)
+}
+
+// What an audit has kept, of the line: four numbers from the first slot on.
+fn differences_of(line: &[u32; NUMBERS]) -> Differences {
+    let at = [line[2], line[3], line[4], line[5]];
+    differences_in(&at)
 }
 
 // Whether a call that only reads is answered as the line says. The status stands after the arguments, which start at 2.
@@ -89,6 +101,12 @@ fn read(ws: &[u32], line: &[u32; NUMBERS], count: usize) -> bool {
         STEP_BACK => entry_there(line, count, 11, step_back(ws, walk_of(line))),
         RESCALE_MARK => truth_there(line, count, 3, rescale_mark(ws, s)),
         LIST => listed(ws, line, count),
+        STEP_DIFFERENCE => difference_there(
+            line,
+            count,
+            6,
+            step_difference(ws, differences_of(line)),
+        ),
         _ => false,
     }
 }

@@ -1,11 +1,13 @@
 // Compares an answer with the one that a line of numbers gives from a place on: STATUS VALUES.., and no number more.
 use super::numbers::NUMBERS;
+use answers::DifferenceAnswer;
 use answers::EntryAnswer;
 use answers::NumberAnswer;
 use answers::SignAnswer;
 use answers::TruthAnswer;
 use answers::ValueAnswer;
 use arena::Entry;
+use passing::differences::pass_difference;
 use passing::pass_done;
 use passing::pass_entry;
 use passing::pass_number;
@@ -72,6 +74,20 @@ fn says_entry(line: &[u32; NUMBERS], count: usize, at: u32, status: u32, e: Entr
     number_at(line, from + 1) == e.key && number_at(line, from + 2) == e.value
 }
 
+// Whether the line ends with this status, and these four words where the call is accepted.
+fn says_row(line: &[u32; NUMBERS], count: usize, at: u32, status: u32, row: &[u32; 4]) -> bool {
+    if status != ACCEPTED {
+        return says(line, count, at, status);
+    }
+    let from = at as usize;
+    if count != from + 5 {
+        return false;
+    }
+    let head = number_at(line, from) == ACCEPTED && number_at(line, from + 1) == row[0];
+    let key = number_at(line, from + 2) == row[1];
+    head && key && number_at(line, from + 3) == row[2] && number_at(line, from + 4) == row[3]
+}
+
 pub fn done_there(line: &[u32; NUMBERS], count: usize, at: u32, a: DoneAnswer) -> bool {
     says(line, count, at, pass_done(a))
 }
@@ -114,4 +130,10 @@ pub fn entry_there(line: &[u32; NUMBERS], count: usize, at: u32, a: EntryAnswer)
         value: out[1],
     };
     says_entry(line, count, at, status, e)
+}
+
+pub fn difference_there(line: &[u32; NUMBERS], count: usize, at: u32, a: DifferenceAnswer) -> bool {
+    let mut out = [0u32; 4];
+    let status = pass_difference(a, &mut out);
+    says_row(line, count, at, status, &out)
 }

@@ -12,7 +12,11 @@ pub mod RemoveMade
 pub mod Reserves
 pub mod Edits
 pub mod Ranges
+pub mod Kept
 pub mod Extremes
 pub mod Orders
+pub mod Differences
+pub mod DifferenceLaws
+pub mod NextDifferences
 pub mod Worked
 pub mod Sharing

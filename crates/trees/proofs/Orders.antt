@@ -34,7 +34,7 @@ numbers-equal a b =
     (λ h e. absurd (true≢false (sym e)))
     (λ h e. h)
 
-numbers-self : (a : ℕ) → compareNumbers a a ≡ same
+pub numbers-self : (a : ℕ) → compareNumbers a a ≡ same
 numbers-self a = rw (le-ltb a a (omega arith))
 
 then-opposite : (s t : Sign) → opposite s andThen opposite t ≡ opposite (s andThen t)

@@ -22,7 +22,7 @@ Up p = (a b : ℕ) → a ≤ b → p a ≡ true → p b ≡ true
 abbrev pub Down : (ℕ → Bool) → Type 0
 Down p = (a b : ℕ) → a ≤ b → p b ≡ true → p a ≡ true
 
-from-start-up : (s : Bound) → Up (fromStart s)
+pub from-start-up : (s : Bound) → Up (fromStart s)
 from-start-up (included c) a b h t = le-leb c b (omega (arith, leb-true c a t))
 from-start-up (excluded c) a b h t = lt-ltb c b (omega (arith, ltb-true c a t))
 from-start-up unbounded a b h t = refl
@@ -63,10 +63,10 @@ not-down p u a b h t = go (p b) (λ e. true≢false (sym (u a b h e) ∙ t))
     go false f = refl
 
 -- A test on keys, of an entry.
-abbrev keyed : (ℕ → Bool) → Entry → Bool
+abbrev pub keyed : (ℕ → Bool) → Entry → Bool
 keyed p e = p (e .key)
 
-keep-append : (p : Entry → Bool) (xs ys : List Entry) → keep p (xs ++ ys) ≡ keep p xs ++ keep p ys
+pub keep-append : (p : Entry → Bool) (xs ys : List Entry) → keep p (xs ++ ys) ≡ keep p xs ++ keep p ys
 keep-append p [] ys = refl
 keep-append p (x ∷ xs) ys = go (p x) (keep-append p xs ys)
   where
@@ -76,7 +76,7 @@ keep-append p (x ∷ xs) ys = go (p x) (keep-append p xs ys)
     go false ih = ih
 
 module _ (p : ℕ → Bool) (k : ℕ) (n : p k ≡ false) where
-  keep-below : Up p → (xs : List Entry) → Below k xs → keep (keyed p) xs ≡ []
+  pub keep-below : Up p → (xs : List Entry) → Below k xs → keep (keyed p) xs ≡ []
   keep-below u [] b = refl
   keep-below u (x ∷ xs) b = rw (not-up p u (x .key) k (omega arith) n) (keep-below u xs (b .1))
 

@@ -4,6 +4,7 @@ pub mod Listing
 pub mod Edit
 pub mod Range
 pub mod Order
+pub mod Difference
 pub mod Lookup
 pub mod Insert
 pub mod Remove

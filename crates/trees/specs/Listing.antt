@@ -8,10 +8,18 @@ use lib.Dec.{ltb, eqb}
 use Rattle.heights.specs.Choice.{if_then_else_}
 use Rattle.trees.specs.Tree.{Entry}
 
+-- Of a list whose elements have numbers: every number is above k; each is below all that follow.
+abbrev pub AboveBy : {A : Type 0} → (A → ℕ) → ℕ → List A → Type 0
+AboveBy number k [] = Unit {0}
+AboveBy number k (x ∷ xs) = (k < number x) × AboveBy number k xs
+
+abbrev pub AscendingBy : {A : Type 0} → (A → ℕ) → List A → Type 0
+AscendingBy number [] = Unit {0}
+AscendingBy number (x ∷ xs) = AboveBy number (number x) xs × AscendingBy number xs
+
 -- Every key is above k; every key is below k.
 abbrev pub Above : ℕ → List Entry → Type 0
-Above k [] = Unit {0}
-Above k (e ∷ xs) = (k < e .key) × Above k xs
+Above k xs = AboveBy (λ e. e .key) k xs
 
 abbrev pub Below : ℕ → List Entry → Type 0
 Below k [] = Unit {0}
@@ -20,8 +28,7 @@ Below k (e ∷ xs) = (e .key < k) × Below k xs
 -- RULES 3.4: "In the listing .. each key is above the one before it": each is below all that
 -- follow.
 abbrev pub Ascending : List Entry → Type 0
-Ascending [] = Unit {0}
-Ascending (e ∷ xs) = Above (e .key) xs × Ascending xs
+Ascending xs = AscendingBy (λ e. e .key) xs
 
 -- RULES 6.13: "`get`: the entry with the key, if one has it."
 abbrev pub find : ℕ → List Entry → Option Entry
@@ -43,7 +50,7 @@ cut k [] = []
 cut k (e ∷ xs) = if eqb k (e .key) then xs else e ∷ cut k xs
 
 -- RULES 6.13: "`first` and `last`: its two ends, if any."
-abbrev pub firstOf : List Entry → Option Entry
+abbrev pub firstOf : {A : Type 0} → List A → Option A
 firstOf [] = none
 firstOf (e ∷ xs) = some e
 

@@ -54,7 +54,7 @@ beforeBack w k = toEnd (w .end) k && toEnd (past (w .given-back)) k
 abbrev pub remains : Range → Entry → Bool
 remains w e = afterFront w (e .key) && beforeBack w (e .key)
 
-abbrev pub keep : (Entry → Bool) → List Entry → List Entry
+abbrev pub keep : {A : Type 0} → (A → Bool) → List A → List A
 keep p [] = []
 keep p (e ∷ xs) = if p e then e ∷ keep p xs else keep p xs
 

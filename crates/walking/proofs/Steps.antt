@@ -13,10 +13,11 @@ use Rattle.lookup.specs.declared.Found.the-variants.{At, Nothing}
 use Rattle.lookup.specs.Finding.{foundOf, Finds}
 use Rattle.ranges.specs.Ranges.{boundOf, rangeOf}
 use Rattle.calls.specs.Refusal as calls
+use Rattle.calls.specs.Reading.{orRefused}
 use Rattle.calls.specs.Call as call
 use Rattle.calls.specs.Outcome.{Outcome}
 use Rattle.calls.proofs.Versions.{version-of}
-use Rattle.calls.proofs.ReadingOutcomes.{orRefused, bad-range-outcome, step-outcome}
+use Rattle.calls.proofs.ReadingOutcomes.{bad-range-outcome, step-outcome}
 use Rattle.answers.specs.declared.Refusal.{Refusal}
 use Rattle.answers.specs.declared.Entered.{Entered}
 use Rattle.answers.specs.Answers.{refusalOf}

@@ -1,5 +1,6 @@
 //! Histories by chance: edits of versions held, new and old, and after each a few questions.
 use crate::book::Book;
+use crate::differences::audit;
 use crate::tags::{RECEIVED, RESCALE_INTERCEPT, RESCALE_SLOPE};
 use crate::walks::{HABITS, walk};
 use common::random::Random;
@@ -88,6 +89,7 @@ pub fn ask_order(book: &mut Book, slot: u32, other: u32) {
     book.compare(slot, other);
     book.compare(other, slot);
     book.equal(slot, other);
+    audit(book, slot, other);
 }
 
 /// The same version in another slot; and the same listing in another tree, an entry being removed and put back.

@@ -26,6 +26,7 @@ pub enum Call {
     StepBack = 13,
     RescaleMark = 14,
     List = 15,
+    StepDifference = 16,
 }
 
 /// The values of an accepted call, or the number of the refusal.

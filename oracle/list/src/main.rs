@@ -3,6 +3,7 @@
 #![forbid(unsafe_code)]
 
 mod book;
+mod differences;
 mod histories;
 mod line;
 mod script;

@@ -1,5 +1,6 @@
 //! The script: what is called, part after part. Each part leaves no slot held.
 use crate::book::{Book, SLOTS};
+use crate::differences::audit;
 use crate::histories::{self, Keys, Plan, ask_ends, ask_order};
 use crate::tags::{IMAGE_GROUP, PATIENT_BIRTH_DATE, PATIENT_NAME, RECEIVED, RESCALE_INTERCEPT, RESCALE_SLOPE};
 use crate::walks::{HABITS, walk};
@@ -82,7 +83,8 @@ fn beside(keys: &[u32]) -> Vec<Bound<u32>> {
     [Bound::Unbounded].into_iter().chain(given).collect()
 }
 
-/// Listings that differ in a key, in a value, or by being a proper beginning of the other, each pair in both orders.
+/// Listings that differ in a key, in a value, or by being a proper beginning of the other, each
+/// pair in both orders: how they compare, and what differs.
 fn orders(book: &mut Book) {
     let none = book.new_version();
     let listings: [&[(u32, u32)]; 7] = [
@@ -106,6 +108,7 @@ fn orders(book: &mut Book) {
         for other in &slots {
             book.compare(*slot, *other);
             book.equal(*slot, *other);
+            audit(book, *slot, *other);
         }
     }
     release_all(book);
@@ -183,5 +186,10 @@ fn header(book: &mut Book) {
         walk(book, slot, Bound::Included(IMAGE_GROUP[0]), Bound::Excluded(IMAGE_GROUP[1]), HABITS[2]);
     }
     book.equal(sent, dated);
+    for slot in book.held() {
+        for other in book.held() {
+            audit(book, slot, other);
+        }
+    }
     release_all(book);
 }

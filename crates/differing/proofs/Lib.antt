@@ -1,0 +1,4 @@
+pub mod Descents
+pub mod Nexts
+pub mod Versions
+pub mod Answering
