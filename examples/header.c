@@ -1,7 +1,8 @@
-/* A study's header as received, as imported and as sent, each a version of its own; and going back gives the received header.
+/* A study's header as received, as imported and as sent, each a version of its own; what changed
+ * between them, tag by tag; and going back gives the received header.
  *
- * The value stored at a tag is the position of the tag's value in a file. Import sets two tags, sending cuts two. examples/header.rs is the same in Rust, and
- * both write examples/header.stdout.
+ * The value stored at a tag is the position of the tag's value in a file. Import sets two tags,
+ * sending cuts two. examples/header.rs is the same in Rust, and both write examples/header.stdout.
  */
 #include "foamcorbel.h"
 
@@ -92,6 +93,40 @@ static void show(const char *name, uint32_t slot)
     }
 }
 
+/* A tag that differs between two states of the header, which have these names. */
+static void show_change(const char *from, const char *to, foamcorbel_difference change)
+{
+    unsigned first = (unsigned)change.first_value, second = (unsigned)change.second_value;
+    printf("  (%04x,%04x) ", (unsigned)(change.key >> 16), (unsigned)(change.key & 0xffff));
+    switch (change.kind) {
+    case FOAMCORBEL_ONLY_FIRST:
+        printf("only in %s, at position %u\n", from, first);
+        break;
+    case FOAMCORBEL_ONLY_SECOND:
+        printf("only in %s, at position %u\n", to, second);
+        break;
+    case FOAMCORBEL_IN_BOTH:
+        printf("changed from position %u to position %u\n", first, second);
+        break;
+    }
+}
+
+static void show_changes(const char *from, uint32_t first, const char *to, uint32_t second)
+{
+    foamcorbel_differences at = foamcorbel_differences_between(first, second);
+    foamcorbel_difference change;
+    uint32_t refusal = foamcorbel_next_difference(words, len, &at, &change);
+    printf("what changed from %s to %s:\n", from, to);
+    while (refusal == FOAMCORBEL_ACCEPTED) {
+        show_change(from, to, change);
+        refusal = foamcorbel_next_difference(words, len, &at, &change);
+    }
+    /* A list that a refusal has cut short must not pass for a whole one. */
+    if (refusal != FOAMCORBEL_END) {
+        accepted(refusal);
+    }
+}
+
 /* Whether the slot lists the tags that were received, each at its position, and no other. */
 static int as_received(uint32_t slot)
 {
@@ -118,6 +153,8 @@ int main(void)
     show("received", received);
     show("imported", imported);
     show("sent", sent);
+    show_changes("received", received, "imported", imported);
+    show_changes("received", received, "sent", sent);
 
     accepted(foamcorbel_equal(words, len, received, sent, &equal));
     printf("sent equals received: %s\n", equal ? "yes" : "no");

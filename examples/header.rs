@@ -1,8 +1,9 @@
-//! A study's header as received, as imported and as sent, each a version of its own; and going back gives the received header.
+//! A study's header as received, as imported and as sent, each a version of its own; what changed
+//! between them, tag by tag; and going back gives the received header.
 //!
-//! The value stored at a tag is the position of the tag's value in a file. Import sets two tags, sending cuts two. examples/header.c is the same in C,
-//! and both write examples/header.stdout.
-use foamcorbel::{tag, Arena, Entry, Refusal, Slot};
+//! The value stored at a tag is the position of the tag's value in a file. Import sets two tags,
+//! sending cuts two. examples/header.c is the same in C, and both write examples/header.stdout.
+use foamcorbel::{tag, Arena, Difference, Entry, Refusal, Slot};
 
 const NODES: u32 = 200;
 const SLOTS: u32 = 8;
@@ -89,6 +90,29 @@ fn show(name: &str, arena: &Arena, slot: Slot) -> Result<(), Refusal> {
     Ok(())
 }
 
+/// A tag that differs between two states of the header, which have these names.
+fn show_change(from: &str, to: &str, change: Difference) {
+    let key = change.key();
+    print!("  ({:04x},{:04x}) ", key >> 16, key & 0xffff);
+    match change {
+        Difference::OnlyFirst(entry) => println!("only in {from}, at position {}", entry.value),
+        Difference::OnlySecond(entry) => println!("only in {to}, at position {}", entry.value),
+        Difference::InBoth {
+            first_value,
+            second_value,
+            ..
+        } => println!("changed from position {first_value} to position {second_value}"),
+    }
+}
+
+fn show_changes(arena: &Arena, from: (&str, Slot), to: (&str, Slot)) -> Result<(), Refusal> {
+    println!("what changed from {} to {}:", from.0, to.0);
+    for change in arena.differences(from.1, to.1)? {
+        show_change(from.0, to.0, change);
+    }
+    Ok(())
+}
+
 fn main() -> Result<(), Refusal> {
     let mut words = [0; Arena::words_for(NODES, SLOTS)];
     let mut arena = Arena::format(&mut words, NODES, SLOTS)?;
@@ -98,6 +122,8 @@ fn main() -> Result<(), Refusal> {
     show("received", &arena, received)?;
     show("imported", &arena, imported)?;
     show("sent", &arena, sent)?;
+    show_changes(&arena, ("received", received), ("imported", imported))?;
+    show_changes(&arena, ("received", received), ("sent", sent))?;
 
     println!(
         "sent equals received: {}",

@@ -1,7 +1,7 @@
 /* Foamcorbel: a persistent map from DICOM tags to value positions, in one array of 32-bit words that the caller lends.
  *
- * C99. Link libfoamcorbel.a, whose functions are proved to do what is said here. This file, with the three small functions at its end, is only compiled and
- * run (tests/bindings).
+ * C99. Link libfoamcorbel.a, whose functions are proved to do what is said here. This file, with
+ * the five small functions at its end, is only compiled and run (tests/bindings).
  *
  * THE ARENA. For N nodes and V version slots it is an array of FOAMCORBEL_WORDS(N, V) words. Each state of a header is a version, held by a slot,
  * a number below V. No call changes a version that is there: foamcorbel_insert and foamcorbel_remove hand out a slot for a new version, which shares
@@ -49,7 +49,7 @@ enum foamcorbel_refusal {
     FOAMCORBEL_ABSENT = 5,     /* get without the key; first or last of an empty version */
     FOAMCORBEL_NO_SLOT = 6,    /* a slot is to be handed out, and all V are held */
     FOAMCORBEL_NO_ROOM = 7,    /* insert or remove: fewer nodes are free than the call may need */
-    FOAMCORBEL_END = 8         /* a walk step with nothing left */
+    FOAMCORBEL_END = 8         /* a walk step or a difference step with nothing left */
 };
 
 /* The kind of a walk's bound. Every other number is read as FOAMCORBEL_UNBOUNDED. */
@@ -57,6 +57,13 @@ enum foamcorbel_bound {
     FOAMCORBEL_UNBOUNDED = 0, /* the key beside it says nothing */
     FOAMCORBEL_INCLUDED = 1,
     FOAMCORBEL_EXCLUDED = 2
+};
+
+/* Which of two versions have the key at which they differ. */
+enum foamcorbel_difference_kind {
+    FOAMCORBEL_ONLY_FIRST = 1,
+    FOAMCORBEL_ONLY_SECOND = 2,
+    FOAMCORBEL_IN_BOTH = 3 /* with different values */
 };
 
 /* An entry: a key and the value stored at it. Two words. */
@@ -79,12 +86,36 @@ typedef struct foamcorbel_walk {
     uint32_t back_key;
 } foamcorbel_walk;
 
+/* What the caller keeps between difference steps: the slots of two versions, and the last key that
+ * it was given. Four words. The call reads it and never writes it. given: 0 is no, every other
+ * number is yes. Where it is no, the key beside it says nothing. */
+typedef struct foamcorbel_differences {
+    uint32_t first;
+    uint32_t second;
+    uint32_t given;
+    uint32_t given_key;
+} foamcorbel_differences;
+
+/* How two versions differ at a key: the kind (enum foamcorbel_difference_kind), the key, and the
+ * value in each version. Where a version has no such key its value is 0; the kind tells this from a
+ * 0 that is stored. Four words. */
+typedef struct foamcorbel_difference {
+    uint32_t kind;
+    uint32_t key;
+    uint32_t first_value;
+    uint32_t second_value;
+} foamcorbel_difference;
+
 /* C99 has no static_assert: an array type of -1 elements stops the compiler instead. */
 #define FOAMCORBEL_ASSERT(name, what) typedef char foamcorbel_assert_##name[(what) ? 1 : -1]
 FOAMCORBEL_ASSERT(a_word_is_four_bytes, sizeof(uint32_t) == 4);
 FOAMCORBEL_ASSERT(a_length_is_eight_bytes, sizeof(size_t) == 8);
 FOAMCORBEL_ASSERT(an_entry_is_two_words, sizeof(foamcorbel_entry) == 2 * sizeof(uint32_t));
 FOAMCORBEL_ASSERT(a_walk_is_nine_words, sizeof(foamcorbel_walk) == 9 * sizeof(uint32_t));
+FOAMCORBEL_ASSERT(two_slots_and_a_key_are_four_words,
+                  sizeof(foamcorbel_differences) == 4 * sizeof(uint32_t));
+FOAMCORBEL_ASSERT(a_difference_is_four_words,
+                  sizeof(foamcorbel_difference) == 4 * sizeof(uint32_t));
 FOAMCORBEL_ASSERT(a_sign_is_a_word, sizeof(int32_t) == sizeof(uint32_t));
 FOAMCORBEL_ASSERT(the_largest_arena, FOAMCORBEL_WORDS(FOAMCORBEL_MAX_NODES, FOAMCORBEL_MAX_SLOTS) == 12354);
 #undef FOAMCORBEL_ASSERT
@@ -147,6 +178,16 @@ uint32_t foamcorbel_equal(const uint32_t *words, size_t len, uint32_t s, uint32_
 uint32_t foamcorbel_step_front(const uint32_t *words, size_t len, const foamcorbel_walk *walk, foamcorbel_entry *entry);
 uint32_t foamcorbel_step_back(const uint32_t *words, size_t len, const foamcorbel_walk *walk, foamcorbel_entry *entry);
 
+/* Gives the least key at which the versions of the two slots differ, above the last key given: only
+ * one of them has it, or both have it with different values. The caller then keeps the key for the
+ * next step: foamcorbel_next_difference below does that too. One slot twice is END at once.
+ * A step reads the versions that the two slots hold when it is made: for one list of differences
+ * give up neither slot before END. Each step tests the whole arena, as every call does.
+ * Refused: UNSOUND, NO_VERSION, END. */
+uint32_t foamcorbel_step_difference(const uint32_t *words, size_t len,
+                                    const foamcorbel_differences *at,
+                                    foamcorbel_difference *difference);
+
 /* Gives 1 where the version of slot s has (0028,1053) Rescale Slope, otherwise 0.
  * Refused: UNSOUND, NO_VERSION. */
 uint32_t foamcorbel_rescale_mark(const uint32_t *words, size_t len, uint32_t s, uint32_t *marked);
@@ -188,6 +229,31 @@ static inline uint32_t foamcorbel_next_back(const uint32_t *words, size_t len, f
     if (refusal == FOAMCORBEL_ACCEPTED) {
         walk->back_given = 1;
         walk->back_key = entry->key;
+    }
+    return refusal;
+}
+
+/* The differences between the versions of two slots, none given yet. */
+static inline foamcorbel_differences foamcorbel_differences_between(uint32_t first, uint32_t second)
+{
+    foamcorbel_differences at;
+    at.first = first;
+    at.second = second;
+    at.given = 0;
+    at.given_key = 0;
+    return at;
+}
+
+/* foamcorbel_step_difference, and the key that was given is kept. A refusal leaves what is kept as
+ * it was. */
+static inline uint32_t foamcorbel_next_difference(const uint32_t *words, size_t len,
+                                                  foamcorbel_differences *at,
+                                                  foamcorbel_difference *difference)
+{
+    uint32_t refusal = foamcorbel_step_difference(words, len, at, difference);
+    if (refusal == FOAMCORBEL_ACCEPTED) {
+        at->given = 1;
+        at->given_key = difference->key;
     }
     return refusal;
 }

@@ -3,7 +3,7 @@
 
 #define MAX_LEN 400
 #define WRITING 5
-#define CALLS 16
+#define CALLS 17
 
 static uint32_t seed = 20240229;
 
@@ -47,10 +47,22 @@ static foamcorbel_walk walk(void)
     return w;
 }
 
+static foamcorbel_differences differences(void)
+{
+    foamcorbel_differences at;
+    at.first = number() % 8;
+    at.second = number() % 8;
+    at.given = number();
+    at.given_key = number();
+    return at;
+}
+
 /* The calls below WRITING may write words. */
 static uint32_t call(unsigned which, uint32_t *words, size_t len)
 {
     foamcorbel_walk w = walk();
+    foamcorbel_differences at = differences();
+    foamcorbel_difference difference;
     foamcorbel_entry entry;
     uint32_t value;
     int32_t sign;
@@ -70,6 +82,7 @@ static uint32_t call(unsigned which, uint32_t *words, size_t len)
     case 12: return foamcorbel_step_front(words, len, &w, &entry);
     case 13: return foamcorbel_step_back(words, len, &w, &entry);
     case 14: return foamcorbel_rescale_mark(words, len, number(), &value);
+    case 15: return foamcorbel_step_difference(words, len, &at, &difference);
     default: return foamcorbel_sound(words, len, &value);
     }
 }

@@ -1,7 +1,10 @@
-/* Every function accepted, and refused in every way that it can be. Answers are read off document 01. */
+/* Every function accepted, and refused in every way that it can be. Answers are read off
+ * docs/RULES.md. */
 #include "expect.h"
 
-/* What stands in a value or entry that no call has written. */
+#include <string.h>
+
+/* What stands in a value, entry or difference that no call has written. */
 #define UNWRITTEN 3141592653u
 
 /* The call is refused with that number, and writes neither a word nor what it would have given. */
@@ -11,9 +14,11 @@
         value = UNWRITTEN;                                            \
         sign = -7;                                                    \
         entry.key = entry.value = UNWRITTEN;                          \
+        difference = no_difference;                                   \
         EXPECT((call) == (refusal));                                  \
         EXPECT(value == UNWRITTEN && sign == -7);                     \
         EXPECT(entry.key == UNWRITTEN && entry.value == UNWRITTEN);   \
+        EXPECT(difference_is(no_difference));                         \
         EXPECT(kept(words, len));                                     \
     } while (0)
 
@@ -36,9 +41,32 @@
         EXPECT(entry.key == (expected_key) && entry.value == (expected_value)); \
     } while (0)
 
+/* The call is accepted and gives the difference. */
+#define GIVES_DIFFERENCE(kind, key, first_value, second_value, call)  \
+    do {                                                              \
+        const foamcorbel_difference expected = { kind, key, first_value, second_value }; \
+        difference = no_difference;                                   \
+        ACCEPTS(call);                                                \
+        EXPECT(difference_is(expected));                              \
+    } while (0)
+
 static uint32_t value;
 static int32_t sign;
 static foamcorbel_entry entry;
+static foamcorbel_difference difference;
+static const foamcorbel_difference no_difference = { UNWRITTEN, UNWRITTEN, UNWRITTEN, UNWRITTEN };
+
+static int difference_is(foamcorbel_difference expected)
+{
+    return memcmp(&difference, &expected, sizeof expected) == 0;
+}
+
+/* The first difference of two slots. */
+static uint32_t step_difference(const uint32_t *words, size_t len, uint32_t first, uint32_t second)
+{
+    foamcorbel_differences at = foamcorbel_differences_between(first, second);
+    return foamcorbel_step_difference(words, len, &at, &difference);
+}
 
 static void formats(void)
 {
@@ -168,6 +196,27 @@ static void comparisons(void)
     REFUSES(FOAMCORBEL_NO_VERSION, foamcorbel_equal(words, len, 5, 1, &value));
 }
 
+/* Slots 1, 2, 3 hold: 5 to 50; 5 to 50 and 9 to 90; 5 to 51. */
+static void differences(void)
+{
+    size_t len = arena_len(40, 5);
+    uint32_t *words = arena(40, 5);
+    GIVES(0, foamcorbel_new_version(words, len, &value));
+    GIVES(1, foamcorbel_insert(words, len, 0, 5, 50, &value));
+    GIVES(2, foamcorbel_insert(words, len, 1, 9, 90, &value));
+    GIVES(3, foamcorbel_insert(words, len, 0, 5, 51, &value));
+    GIVES_DIFFERENCE(FOAMCORBEL_ONLY_FIRST, 9, 90, 0, step_difference(words, len, 2, 1));
+    GIVES_DIFFERENCE(FOAMCORBEL_ONLY_SECOND, 5, 0, 50, step_difference(words, len, 0, 1));
+    GIVES_DIFFERENCE(FOAMCORBEL_IN_BOTH, 5, 50, 51, step_difference(words, len, 1, 3));
+    REFUSES(FOAMCORBEL_END, step_difference(words, len, 0, 0));
+    REFUSES(FOAMCORBEL_END, step_difference(words, len, 2, 2));
+    REFUSES(FOAMCORBEL_NO_VERSION, step_difference(words, len, 1, 4));
+    REFUSES(FOAMCORBEL_NO_VERSION, step_difference(words, len, 4, 1));
+    REFUSES(FOAMCORBEL_NO_VERSION, step_difference(words, len, 4, 4));
+    REFUSES(FOAMCORBEL_NO_VERSION, step_difference(words, len, 1, 5));
+    REFUSES(FOAMCORBEL_NO_VERSION, step_difference(words, len, 4294967295u, 1));
+}
+
 static void marks(void)
 {
     size_t len = arena_len(20, 4);
@@ -200,6 +249,8 @@ static void refuse_all(uint32_t *words, size_t len)
     REFUSES(FOAMCORBEL_UNSOUND, foamcorbel_equal(words, len, 0, 0, &value));
     REFUSES(FOAMCORBEL_UNSOUND, foamcorbel_step_front(words, len, &walk, &entry));
     REFUSES(FOAMCORBEL_UNSOUND, foamcorbel_step_back(words, len, &walk, &entry));
+    REFUSES(FOAMCORBEL_UNSOUND, step_difference(words, len, 0, 0));
+    REFUSES(FOAMCORBEL_UNSOUND, step_difference(words, len, 0, 1));
     REFUSES(FOAMCORBEL_UNSOUND, foamcorbel_rescale_mark(words, len, 0, &value));
     GIVES(0, foamcorbel_sound(words, len, &value));
 }
@@ -235,6 +286,7 @@ int main(void)
     lookups();
     reserves();
     comparisons();
+    differences();
     marks();
     no_arena();
     return report("calls");

@@ -1,4 +1,5 @@
-/* Document 01's figures, and each call with every refusal that it can give; each answer goes on a line. cases.stdout has what document 01 says they are. */
+/* The figures of docs/RULES.md, and each call with every refusal that it can give; each answer goes
+ * on a line. cases.stdout has what docs/RULES.md says they are. */
 #include "lines.h"
 
 /* The greatest key, and the greatest number that a slot may be called by. */
@@ -41,6 +42,15 @@ static foamcorbel_walk given_back(foamcorbel_walk walk, uint32_t key)
     walk.back_given = 1;
     walk.back_key = key;
     return walk;
+}
+
+/* The differences of two slots, of which this key was given last. */
+static foamcorbel_differences above(uint32_t first, uint32_t second, uint32_t key)
+{
+    foamcorbel_differences at = foamcorbel_differences_between(first, second);
+    at.given = 1;
+    at.given_key = key;
+    return at;
 }
 
 /* Formats with too few or too many nodes or slots for words of that number. */
@@ -172,6 +182,9 @@ static void reads(uint32_t s)
     equal(s, 0);
     equal(0, s);
     both_ends(foamcorbel_walk_over(s));
+    step_difference(foamcorbel_differences_between(s, 0));
+    step_difference(foamcorbel_differences_between(0, s));
+    step_difference(foamcorbel_differences_between(s, s));
     rescale_mark(s);
 }
 
@@ -280,6 +293,23 @@ static void orders(void)
     equal(0, 0);
 }
 
+/* What differs between the eight. */
+static void differences(void)
+{
+    step_difference(foamcorbel_differences_between(1, 2));
+    step_difference(above(1, 2, RESCALE_SLOPE));
+    step_difference(foamcorbel_differences_between(5, 3));
+    step_difference(above(5, 3, RESCALE_SLOPE));
+    step_difference(above(5, 3, GREATEST));
+    step_difference(foamcorbel_differences_between(6, 5));
+    step_difference(above(6, 5, 0));
+    step_difference(above(6, 5, GREATEST));
+    step_difference(foamcorbel_differences_between(0, 1));
+    step_difference(foamcorbel_differences_between(1, 4));
+    step_difference(foamcorbel_differences_between(1, 7));
+    step_difference(foamcorbel_differences_between(0, 0));
+}
+
 /* The entries of the eight. */
 static void contents(void)
 {
@@ -344,6 +374,7 @@ int main(void)
     no_room();
     eight();
     orders();
+    differences();
     contents();
     reused();
     all_released();

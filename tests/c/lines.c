@@ -204,6 +204,19 @@ void step_back(foamcorbel_walk walk)
     entry_line(status, entry);
 }
 
+void step_difference(foamcorbel_differences at)
+{
+    foamcorbel_difference difference = { UNWRITTEN, UNWRITTEN, UNWRITTEN, UNWRITTEN };
+    calls("step difference");
+    uint32_t status = foamcorbel_step_difference(words, len, &at, &difference);
+    if (refused(status)) {
+        return;
+    }
+    printf("%" PRIu32 " %" PRIu32 " %" PRIu32 " %" PRIu32, difference.kind, difference.key,
+           difference.first_value, difference.second_value);
+    ends(0);
+}
+
 void rescale_mark(uint32_t s)
 {
     uint32_t truth = UNWRITTEN;

@@ -24,6 +24,8 @@ void compare(uint32_t s, uint32_t t);
 void equal(uint32_t s, uint32_t t);
 void step_front(foamcorbel_walk walk);
 void step_back(foamcorbel_walk walk);
+/* Its answer is the four words of the difference: kind, key, first value, second value. */
+void step_difference(foamcorbel_differences at);
 void rescale_mark(uint32_t s);
 void sound(void);
 

@@ -53,13 +53,18 @@ static void read_all(uint32_t slot, uint32_t key)
     EXPECT(foamcorbel_rescale_mark(words, len, slot, &word) == FOAMCORBEL_ACCEPTED && word == 0);
 }
 
-/* Compares the version with another that differs, and gives the other up. */
-static void compare_and_release(uint32_t slot, uint32_t other)
+/* Compares the version with another that lacks this key alone, and gives the other up. */
+static void compare_and_release(uint32_t slot, uint32_t other, uint32_t key)
 {
+    foamcorbel_differences at = foamcorbel_differences_between(slot, other);
+    foamcorbel_difference difference = {0, 0, 0, 0};
     int32_t sign = 0;
     uint32_t equal = 1;
     EXPECT(foamcorbel_compare(words, len, slot, other, &sign) == FOAMCORBEL_ACCEPTED && sign != 0);
     EXPECT(foamcorbel_equal(words, len, slot, other, &equal) == FOAMCORBEL_ACCEPTED && equal == 0);
+    EXPECT(foamcorbel_next_difference(words, len, &at, &difference) == FOAMCORBEL_ACCEPTED);
+    EXPECT(difference.kind == FOAMCORBEL_ONLY_FIRST && difference.key == key);
+    EXPECT(foamcorbel_next_difference(words, len, &at, &difference) == FOAMCORBEL_END);
     EXPECT(foamcorbel_release(words, len, other) == FOAMCORBEL_ACCEPTED);
 }
 
@@ -72,12 +77,12 @@ static void *history(void *unused)
     EXPECT(foamcorbel_format(words, len, nodes, FOAMCORBEL_MAX_SLOTS) == FOAMCORBEL_ACCEPTED);
     EXPECT(foamcorbel_new_version(words, len, &slot) == FOAMCORBEL_ACCEPTED);
     while (foamcorbel_insert(words, len, slot, key, key, &next) == FOAMCORBEL_ACCEPTED) {
-        compare_and_release(next, slot);
+        compare_and_release(next, slot, key);
         EXPECT(foamcorbel_hold(words, len, next, &slot) == FOAMCORBEL_ACCEPTED);
         EXPECT(foamcorbel_release(words, len, next) == FOAMCORBEL_ACCEPTED);
         read_all(slot, key);
         if (foamcorbel_remove(words, len, slot, key / 2, &next) == FOAMCORBEL_ACCEPTED) {
-            compare_and_release(slot, next);
+            compare_and_release(slot, next, key / 2);
         }
         key++;
     }

@@ -19,8 +19,8 @@
 //! # Ok::<(), Refusal>(())
 //! ```
 //!
-//! Each call first tests that the arena is sound, so that any words may be lent. That takes time in proportion to their number, and a step of a
-//! [`Range`] is such a call too.
+//! Each call first tests that the arena is sound, so that any words may be lent. That takes time in
+//! proportion to their number, and a step of a [`Range`] or of [`Differences`] is such a call too.
 //!
 //! The build looks for `libfoamcorbel.a` in the folder that the variable `FOAMCORBEL_LIB_DIR` names, and without it where `rt staticlib foamcorbel`
 //! writes it in the repository.
@@ -28,11 +28,13 @@
 #![deny(missing_docs)]
 
 mod arena;
+mod differences;
 mod range;
 mod reading;
 mod refusal;
 mod sys;
 
 pub use arena::{tag, Arena, Entry, Slot, MAX_NODES, MAX_SLOTS};
+pub use differences::{Difference, Differences};
 pub use range::Range;
 pub use refusal::Refusal;

@@ -1,5 +1,5 @@
 //! The calls that read versions.
-use crate::{sys, Arena, Entry, Range, Refusal, Slot};
+use crate::{sys, Arena, Differences, Entry, Range, Refusal, Slot};
 use core::cmp::Ordering;
 use core::ops::RangeBounds;
 
@@ -148,6 +148,37 @@ impl Arena<'_> {
         let result =
             unsafe { sys::foamcorbel_equal(self.words.as_ptr(), self.words.len(), one.0, other.0, &mut equal) };
         Refusal::check(result, equal == 1)
+    }
+
+    /// What differs between two versions, that of `first` being the first, by ascending key: the
+    /// keys that only one of them has, and those that both have with different values. Each step
+    /// tests the whole arena. Refused as [`Arena::compare`] is; versions that do not differ are no
+    /// refusal.
+    ///
+    /// ```
+    /// use foamcorbel::{Arena, Difference, Entry, Refusal, Slot};
+    /// let mut words = [0; Arena::words_for(50, 8)];
+    /// let mut arena = Arena::format(&mut words, 50, 8)?;
+    /// let empty = arena.new_version()?;
+    /// let one = arena.insert(empty, 5, 50)?;
+    /// let received = arena.insert(one, 6, 60)?;
+    /// let changed = arena.insert(received, 6, 61)?;
+    /// let cut = arena.remove(changed, 5)?;
+    /// let sent = arena.insert(cut, 7, 70)?;
+    ///
+    /// let mut differences = arena.differences(received, sent)?;
+    /// assert_eq!(differences.next(), Some(Difference::OnlyFirst(Entry { key: 5, value: 50 })));
+    /// let in_both = Difference::InBoth { key: 6, first_value: 60, second_value: 61 };
+    /// assert_eq!(differences.next(), Some(in_both));
+    /// assert_eq!(differences.next(), Some(Difference::OnlySecond(Entry { key: 7, value: 70 })));
+    /// assert_eq!(differences.next(), None);
+    ///
+    /// assert_eq!(arena.differences(sent, sent)?.next(), None);
+    /// assert_eq!(arena.differences(sent, Slot(7)).err(), Some(Refusal::NoVersion));
+    /// # Ok::<(), Refusal>(())
+    /// ```
+    pub fn differences(&self, first: Slot, second: Slot) -> Result<Differences<'_>, Refusal> {
+        Differences::between(self.words, first, second)
     }
 
     /// Whether the version has (0028,1053) Rescale Slope.

@@ -18,7 +18,8 @@ pub enum Refusal {
     NoSlot = 6,
     /// Fewer nodes are free than the call may need.
     NoRoom = 7,
-    /// A walk has nothing left. A [`Range`](crate::Range) ends there, so no function of this crate gives it.
+    /// A walk has nothing left, or two versions have no difference left. A [`Range`](crate::Range)
+    /// and [`Differences`](crate::Differences) end there, so no function of this crate gives it.
     End = 8,
 }
 

@@ -6,6 +6,13 @@ pub(crate) type Walk = [u32; 9];
 /// An entry as two words: its key, then its value.
 pub(crate) type Pair = [u32; 2];
 
+/// What is kept between difference steps as four words: the first slot; the second slot; whether a
+/// key was given, and which.
+pub(crate) type Differences = [u32; 4];
+
+/// A difference as four words: its kind; its key; the value in the first version; in the second.
+pub(crate) type Difference = [u32; 4];
+
 extern "C" {
     pub(crate) fn foamcorbel_format(words: *mut u32, len: usize, n: u32, v: u32) -> u32;
     pub(crate) fn foamcorbel_new_version(words: *mut u32, len: usize, slot: &mut u32) -> u32;
@@ -22,6 +29,12 @@ extern "C" {
     pub(crate) fn foamcorbel_equal(words: *const u32, len: usize, s: u32, t: u32, equal: &mut u32) -> u32;
     pub(crate) fn foamcorbel_step_front(words: *const u32, len: usize, walk: &Walk, entry: &mut Pair) -> u32;
     pub(crate) fn foamcorbel_step_back(words: *const u32, len: usize, walk: &Walk, entry: &mut Pair) -> u32;
+    pub(crate) fn foamcorbel_step_difference(
+        words: *const u32,
+        len: usize,
+        at: &Differences,
+        difference: &mut Difference,
+    ) -> u32;
     pub(crate) fn foamcorbel_rescale_mark(words: *const u32, len: usize, s: u32, marked: &mut u32) -> u32;
     pub(crate) fn foamcorbel_sound(words: *const u32, len: usize, sound: &mut u32) -> u32;
 }

@@ -59,6 +59,10 @@ fn slots_that_are_not_held() {
         refuses(&mut arena, Refusal::NoVersion, |arena| arena.compare(held, slot));
         refuses(&mut arena, Refusal::NoVersion, |arena| arena.equal(slot, held));
         refuses(&mut arena, Refusal::NoVersion, |arena| arena.rescale_mark(slot));
+        for (one, other) in [(held, slot), (slot, held), (slot, slot)] {
+            let differences = |arena: &mut Arena| arena.differences(one, other).map(|_| ());
+            refuses(&mut arena, Refusal::NoVersion, differences);
+        }
         refuses(&mut arena, Refusal::NoVersion, |arena| arena.range(slot, (Included(6), Included(5))).map(|_| ()));
     }
 }
