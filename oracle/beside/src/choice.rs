@@ -1,4 +1,5 @@
 //! Which call comes next in a history.
+use crate::audits::any_position;
 use crate::counts::Counts;
 use crate::looks;
 use crate::model::Model;
@@ -7,14 +8,14 @@ use crate::walks::{any_bound, near};
 use common::keys::Keys;
 use common::random::Random;
 use library::Subject;
-use library::call::{Answer, Call, End, Walk};
+use library::call::{Answer, Call, Differences, End, Walk};
 use library::outcome::Outcome;
 
 /// (0028,1052) and (0028,1053).
 const RESCALE: [u32; 2] = [2_625_618, 2_625_619];
 
-/// Walks that go on between other calls.
-const WALKS: usize = 3;
+/// Walks, and audits of two versions, that go on between other calls.
+const KEPT: usize = 3;
 
 pub struct History {
     keys: Keys,
@@ -28,11 +29,13 @@ pub struct History {
     target: usize,
     number: u32,
     walks: Vec<Walk>,
+    audits: Vec<Differences>,
 }
 
 impl History {
     pub fn new(keys: Keys, most: usize, keep: bool) -> History {
-        History { keys, most, keep, newest: 0, filling: true, target: 2, number: 0, walks: Vec::new() }
+        let (walks, audits) = (Vec::new(), Vec::new());
+        History { keys, most, keep, newest: 0, filling: true, target: 2, number: 0, walks, audits }
     }
 
     pub fn new_key(&mut self, random: &mut Random) -> u32 {
@@ -59,6 +62,7 @@ impl History {
         match (call, answer) {
             (Call::Insert { .. } | Call::Remove { .. }, Answer::Word(slot)) => self.newest = slot,
             (Call::Step { end, walk }, Answer::Entry(key, _)) => self.walks.push(walk.stepped(end, key)),
+            (Call::Difference { at }, Answer::Difference(d)) => self.audits.push(at.stepped(d.key)),
             _ => {}
         }
     }
@@ -102,7 +106,7 @@ impl History {
     fn slot(&self, model: &Model, random: &mut Random) -> u32 {
         let held = model.held();
         if held.is_empty() || random.one_in(14) {
-            return [random.below(model.slots.len()) as u32, model.v(), model.v() + 1, u32::MAX][random.below(4)];
+            return [random.below(model.slots.len()) as u32, impossible(model, random)][random.below(2)];
         }
         let favourite = self.favourite(model);
         let other = held[random.below(held.len())];
@@ -115,8 +119,7 @@ impl History {
         let there = if insert { random.one_in(6) } else { !random.one_in(5) };
         let wanted = self.new_key(random);
         let key = if there { self.present(model, s, random).unwrap_or(wanted) } else { wanted };
-        // Few different values, so that equal entries come up.
-        if insert { Call::Insert { s, key, value: random.below(3) as u32 } } else { Call::Remove { s, key } }
+        if insert { Call::Insert { s, key, value: value(random) } } else { Call::Remove { s, key } }
     }
 
     fn present(&self, model: &Model, s: u32, random: &mut Random) -> Option<u32> {
@@ -149,7 +152,7 @@ impl History {
 
     fn reading(&mut self, model: &Model, random: &mut Random) -> Call {
         let s = self.slot(model, random);
-        match random.below(12) {
+        match random.below(14) {
             0 => Call::Size { s },
             1 => Call::FreeNodes,
             2 => Call::Get { s, key: self.present(model, s, random).unwrap_or(7) },
@@ -160,6 +163,7 @@ impl History {
             7 => Call::Equal { s, t: self.slot(model, random) },
             8 => Call::RescaleMark { s },
             9 => Call::Sound,
+            10 | 11 => self.difference(model, s, random),
             _ => self.step(model, s, random),
         }
     }
@@ -167,8 +171,8 @@ impl History {
     /// A step of a walk that goes on though its slot may have changed, or of one with any last keys.
     fn step(&mut self, model: &Model, s: u32, random: &mut Random) -> Call {
         let end = if random.one_in(2) { End::Front } else { End::Back };
-        if self.walks.len() > WALKS || (!self.walks.is_empty() && random.one_in(2)) {
-            return Call::Step { end, walk: self.walks.swap_remove(random.below(self.walks.len())) };
+        if let Some(walk) = resumed(&mut self.walks, random) {
+            return Call::Step { end, walk };
         }
         let keys: Vec<u32> = model.map(s).map_or(Vec::new(), |map| map.keys().copied().collect());
         let mut key = || near(&keys, random.below(keys.len() + 1), random);
@@ -178,4 +182,33 @@ impl History {
         let given = |random: &mut Random| [0, 0, 1, random.word()][random.below(4)];
         Call::Step { end, walk: Walk { front: (given(random), front), back: (given(random), back), ..walk } }
     }
+
+    /// A step of an audit that goes on though its slots may have changed, or from any position.
+    fn difference(&mut self, model: &Model, s: u32, random: &mut Random) -> Call {
+        let t = self.slot(model, random);
+        let kept = resumed(&mut self.audits, random);
+        Call::Difference { at: kept.unwrap_or_else(|| any_position(model, s, t, random)) }
+    }
+}
+
+/// A slot that cannot be: just beyond the last, or one whose lowest bits are those of a slot.
+pub fn impossible(model: &Model, random: &mut Random) -> u32 {
+    let s = random.below(model.slots.len()) as u32;
+    let far = [32, 256, 65_536, 1 << 31].map(|more| s + more);
+    let near = [model.v(), model.v() + 1, u32::MAX];
+    if random.one_in(2) { near[random.below(3)] } else { far[random.below(4)] }
+}
+
+/// Few different values, so that equal entries come up, and now and then a great one.
+fn value(random: &mut Random) -> u32 {
+    if random.one_in(12) {
+        return [1 << 31, u32::MAX, random.word()][random.below(3)];
+    }
+    random.below(3) as u32
+}
+
+/// One of those that go on, or none, so that another is begun.
+fn resumed<T>(kept: &mut Vec<T>, random: &mut Random) -> Option<T> {
+    let resume = kept.len() > KEPT || (!kept.is_empty() && random.one_in(2));
+    resume.then(|| kept.swap_remove(random.below(kept.len())))
 }

@@ -1,6 +1,6 @@
 //! How much was compared.
 use crate::model::Model;
-use library::call::{Answer, Call, NAMES, NO_ROOM, NO_SLOT};
+use library::call::{Answer, Call, Differences, END, NAMES, NO_ROOM, NO_SLOT};
 use library::outcome::{Outcome, holds, same};
 use std::fmt::{self, Display, Formatter};
 
@@ -18,6 +18,9 @@ pub struct Counts {
     pub walks: u64,
     pub steps: u64,
     pub bad_ranges: u64,
+    /// Pairs of versions stepped through, and the differences that steps gave, by their kinds.
+    pub audits: u64,
+    given: [u64; 4],
     /// Calls after which no node was free, and after which every slot was held.
     pub no_node_free: u64,
     pub all_slots_held: u64,
@@ -32,6 +35,15 @@ impl Counts {
             Answer::Refused(number) => self.refused[call.kind()][number.min(8) as usize] += 1,
             _ => self.accepted[call.kind()] += 1,
         }
+        if let Answer::Difference(given) = answer {
+            self.given[given.kind.min(3) as usize] += 1;
+        }
+    }
+
+    /// Difference steps on two held slots, which give a difference or END.
+    pub fn difference_steps(&self) -> u64 {
+        let kind = Call::Difference { at: Differences::new(0, 0) }.kind();
+        self.accepted[kind] + self.refused[kind][END as usize]
     }
 
     pub fn refused_by(&mut self, model: &Model, answer: Answer) {
@@ -42,16 +54,26 @@ impl Counts {
         }
     }
 
-    /// The histories were to fill the largest arena and all slots, and to leave no node.
+    /// The histories were to fill the largest arena and all slots, to leave no node, and to meet
+    /// every kind of difference.
     pub fn demand_full(&self) -> Outcome {
         same("the most nodes of an arena that gave NO_ROOM", 2047, self.no_room_at)?;
         same("the most slots of an arena that gave NO_SLOT", 32, self.no_slot_at)?;
-        holds("some calls leave no node free", self.no_node_free > 0)
+        holds("some calls leave no node free", self.no_node_free > 0)?;
+        holds("every kind of difference is given", self.given[1..].iter().all(|given| *given > 0))
     }
 
     pub fn fullest(&mut self, model: &Model) {
         self.no_node_free += u64::from(model.free() == 0);
         self.all_slots_held += u64::from(model.slots.iter().all(Option::is_some));
+    }
+
+    fn write_audits(&self, f: &mut Formatter<'_>) -> fmt::Result {
+        let (audits, steps) = (self.audits, self.difference_steps());
+        let [_, first, second, both] = self.given;
+        writeln!(f, "{audits} pairs of versions audited until END was given twice")?;
+        writeln!(f, "{steps} difference steps gave {first} tags only in the first version,")?;
+        writeln!(f, "{second} only in the second, {both} in both, and END")
     }
 
     /// All calls on the library, those that only look included.
@@ -76,6 +98,7 @@ impl Display for Counts {
             "{nodes} nodes of new versions compared, {fresh} of them fresh; the largest version has {largest}"
         )?;
         writeln!(f, "{walks} ranges walked by {steps} steps until both ends gave END, {bad_ranges} bad ranges")?;
+        self.write_audits(f)?;
         writeln!(f, "{} calls left no node free, {} every slot held", self.no_node_free, self.all_slots_held)
     }
 }

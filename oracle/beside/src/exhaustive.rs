@@ -2,12 +2,13 @@
 //!
 //! A call that is refused, or only reads, is found to change no word, so what follows it is what follows without it: only accepted
 //! calls that write are gone on from. At every arena reached, all calls of the alphabet are made and compared.
+use crate::audits;
 use crate::counts::Counts;
 use crate::pair::Pair;
 use crate::walks;
 use common::random::Random;
 use library::Subject;
-use library::call::{Answer, Bound, Call, UNBOUNDED, Walk};
+use library::call::{Answer, Bound, Call, Differences, UNBOUNDED, Walk};
 use library::outcome::Outcome;
 
 const KEYS: [u32; 3] = [10, 20, 30];
@@ -103,15 +104,27 @@ fn compare_reading<S: Subject>(
         for t in SLOTS {
             pair.call(Call::Compare { s, t }, counts)?;
             pair.call(Call::Equal { s, t }, counts)?;
+            audits::compare(pair, s, t, counts)?;
         }
     }
     pair.model.held().into_iter().try_for_each(|s| pair.compare_listing(s))?;
     let Some(slot) = new else { return Ok(()) };
+    compare_positions(pair, slot, counts)?;
     let kinds = |key: u32| [Bound { kind: 1, key }, Bound { kind: 2, key }];
     let bounds: Vec<Bound> = KEYS.into_iter().flat_map(kinds).chain([UNBOUNDED]).collect();
     for start in &bounds {
         for end in &bounds {
             walks::compare(pair, Walk::new(slot, *start, *end), random, counts)?;
+        }
+    }
+    Ok(())
+}
+
+/// Difference steps of every slot and the new one, from every key on.
+fn compare_positions<S: Subject>(pair: &mut Pair<S>, new: u32, counts: &mut Counts) -> Outcome {
+    for s in SLOTS {
+        for key in KEYS.into_iter().chain(OTHERS) {
+            audits::compare_at(pair, Differences::new(s, new).stepped(key), counts)?;
         }
     }
     Ok(())

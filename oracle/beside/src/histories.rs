@@ -1,4 +1,6 @@
-//! Long histories of all seventeen calls, on arenas of every size, that fill the nodes and the slots and empty them again.
+//! Long histories of all eighteen calls, on arenas of every size, that fill the nodes and the slots
+//! and empty them again.
+use crate::audits;
 use crate::choice::History;
 use crate::counts::Counts;
 use crate::pair::Pair;
@@ -88,19 +90,22 @@ fn go<S: Subject>(
     for call in 1..=length {
         history.call(&mut pair, random, counts).map_err(|message| place(call, message))?;
     }
-    list_a_version(&mut pair, random, counts).map_err(|message| place(length, message))?;
+    finish(&mut pair, random, counts).map_err(|message| place(length, message))?;
     counts.histories += 1;
     counts.calls += length;
     Ok(())
 }
 
-/// A version that the history ends with is walked whole, however many entries it has.
-fn list_a_version<S: Subject>(pair: &mut Pair<S>, random: &mut Random, counts: &mut Counts) -> Outcome {
+/// A version that the history ends with is walked whole, however many entries it has, and audited
+/// beside the next one, however many differences they have.
+fn finish<S: Subject>(pair: &mut Pair<S>, random: &mut Random, counts: &mut Counts) -> Outcome {
     let held = pair.model.held();
     if held.is_empty() {
         return Ok(());
     }
-    walks::compare_all(pair, held[random.below(held.len())], random, counts)
+    let place = random.below(held.len());
+    walks::compare_all(pair, held[place], random, counts)?;
+    audits::compare(pair, held[place], held[(place + 1) % held.len()], counts)
 }
 
 /// Puts entries in by inserts and releases of which only the answers are compared; the version that they end with is compared whole.

@@ -1,4 +1,5 @@
 //! What is asked of the slots that a call has touched: the calls that only read, beside rpds.
+use crate::audits;
 use crate::counts::Counts;
 use crate::pair::Pair;
 use crate::walks;
@@ -18,6 +19,7 @@ fn touched(call: Call, answer: Answer) -> Vec<u32> {
         Call::Insert { s, .. } | Call::Remove { s, .. } => vec![s],
         Call::Compare { s, t } | Call::Equal { s, t } => vec![s, t],
         Call::Step { walk, .. } => vec![walk.slot],
+        Call::Difference { at } => vec![at.first, at.second],
         Call::Format { .. } | Call::New | Call::FreeNodes | Call::Sound => vec![],
     };
     if let (true, Answer::Word(slot)) = (call.writes(), answer) {
@@ -39,6 +41,7 @@ pub fn compare<S: Subject>(
         _ => random.word(),
     };
     for s in touched(call, answer) {
+        audits::compare_at(pair, audits::any_naming(&pair.model, s, random), counts)?;
         if pair.model.map(s).is_none() {
             pair.call(Call::Get { s, key }, counts)?;
             continue;
@@ -49,8 +52,19 @@ pub fn compare<S: Subject>(
             compare_orders(pair, s, random, counts)?;
         }
     }
+    if let (true, Answer::Word(new)) = (call.writes(), answer) {
+        audits::compare_new(pair, new, parent(call), random, counts)?;
+    }
     pair.call(Call::Sound, counts)?;
     Ok(())
+}
+
+/// The slot whose version a new one was made of.
+fn parent(call: Call) -> Option<u32> {
+    match call {
+        Call::Hold { s } | Call::Insert { s, .. } | Call::Remove { s, .. } => Some(s),
+        _ => None,
+    }
 }
 
 /// Size, ends, lookups of keys that are there and of keys that are not, the mark, and a walk.

@@ -1,7 +1,8 @@
 //! What document 01 expects of each call: a plain account of slots and nodes over rpds's own maps, with no code of the library's.
+use crate::merge;
 use crate::twins::Twins;
 use library::call::{ABSENT, BAD_RANGE, BAD_SHAPE, END, NO_ROOM, NO_SLOT, NO_VERSION};
-use library::call::{Answer, Bound, Call, End, Walk, truth};
+use library::call::{Answer, Bound, Call, Differences, End, Walk, truth};
 use seen::Map;
 use std::cmp::Ordering;
 use std::ops;
@@ -75,6 +76,7 @@ impl Model {
             Call::Step { end, walk } => step(self.named(walk.slot)?, end, &walk),
             Call::RescaleMark { s } => Ok(truth(self.named(s)?.contains_key(&RESCALE_SLOPE))),
             Call::Sound => Ok(truth(true)),
+            Call::Difference { at } => self.difference(&at),
         }
     }
 
@@ -97,6 +99,11 @@ impl Model {
         let map = self.named(s)?;
         let slot = self.handed_out()?;
         if (self.free() as usize) < reserve(map) { Err(NO_ROOM) } else { Ok(slot) }
+    }
+
+    fn difference(&self, at: &Differences) -> Result<Answer, u32> {
+        let (first, second) = (self.named(at.first)?, self.named(at.second)?);
+        merge::next(first, second, at).map(Answer::Difference).ok_or(END)
     }
 }
 

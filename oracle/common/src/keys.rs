@@ -9,9 +9,12 @@ pub enum Keys {
     Descending,
     /// Few groups with many elements each, as DICOM's tags have it.
     Groups,
-    /// All 32 bits, the two ends more often than by chance.
+    /// All 32 bits, the two ends and the middle more often than by chance.
     Full,
 }
+
+/// Both ends, and where the highest bit is set.
+const LIMITS: [u32; 5] = [0, (1 << 31) - 1, 1 << 31, u32::MAX - 1, u32::MAX];
 
 impl Keys {
     pub const ALL: [Keys; 5] = [Keys::Small, Keys::Ascending, Keys::Descending, Keys::Groups, Keys::Full];
@@ -23,7 +26,7 @@ impl Keys {
             Keys::Ascending => 2 * call,
             Keys::Descending => u32::MAX - 2 * call,
             Keys::Groups => group(random) * 65_536 + random.below(most) as u32,
-            Keys::Full if random.one_in(16) => [0, u32::MAX][random.below(2)],
+            Keys::Full if random.one_in(12) => LIMITS[random.below(LIMITS.len())],
             Keys::Full => random.word(),
         }
     }

@@ -18,6 +18,8 @@ pub struct Counts {
     pub range_steps: u64,
     pub bad_ranges: u64,
     pub comparisons: u64,
+    pub audits: u64,
+    pub differences: u64,
     pub rereadings: u64,
 }
 
@@ -27,6 +29,7 @@ impl Display for Counts {
             calls, shapes, shape_calls, inserts_new, inserts_replacing, removes_present, removes_absent, ..
         } = self;
         let Counts { largest, nodes, lookups, walks, range_steps, bad_ranges, comparisons, rereadings, .. } = self;
+        let Counts { audits, differences, .. } = self;
         writeln!(f, "{calls} calls in histories of up to {largest} entries")?;
         writeln!(
             f,
@@ -37,6 +40,7 @@ impl Display for Counts {
         writeln!(f, "{nodes} nodes compared: colour, entry, and fresh or shared by address")?;
         writeln!(f, "{lookups} lookups, {walks} ranges walked by {range_steps} steps, {bad_ranges} bad ranges")?;
         writeln!(f, "{comparisons} comparisons of two versions, {rereadings} held versions read again")?;
+        writeln!(f, "{audits} pairs of versions audited, {differences} differences looked up")?;
         writeln!(f, "0 differences")
     }
 }

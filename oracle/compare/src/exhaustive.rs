@@ -1,5 +1,6 @@
 //! Every small shape that inserts and removes reach, and every insert and remove on each.
 use crate::counts::Counts;
+use crate::differences;
 use crate::edits;
 use crate::lookups;
 use crate::orders;
@@ -30,6 +31,8 @@ pub fn run(random: &mut Random, counts: &mut Counts) -> Outcome {
             let child = edits::compare(&version, change, counts)?;
             version.unchanged()?;
             orders::compare(&child, &version, counts)?;
+            differences::compare(&child, &version, random, counts)?;
+            differences::compare(&version, &child, random, counts)?;
             if known.insert(colors(&child.tree)) {
                 waiting.push_back(child);
             }

@@ -1,5 +1,6 @@
 //! Long histories: calls on versions held, old ones as well as the newest.
 use crate::counts::Counts;
+use crate::differences;
 use crate::edits;
 use crate::lookups;
 use crate::orders;
@@ -116,8 +117,10 @@ impl History {
         lookups::compare_ends(child, counts)?;
         ranges::compare_any(child, random, counts)?;
         orders::compare(child, &self.held[parent], counts)?;
+        differences::compare(&self.held[parent], child, random, counts)?;
         let other = random.below(self.held.len());
         orders::compare(child, &self.held[other], counts)?;
+        differences::compare(child, &self.held[other], random, counts)?;
         if random.one_in(16) {
             orders::compare_rebuilt(child, counts)?;
             read_again(&self.held[other], counts)?;

@@ -3,6 +3,7 @@
 #![forbid(unsafe_code)]
 
 mod counts;
+mod differences;
 mod edits;
 mod exhaustive;
 mod histories;

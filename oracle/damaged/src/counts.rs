@@ -10,6 +10,8 @@ pub struct Counts {
     pub refused_on_sound: u64,
     pub written_on_sound: u64,
     pub formatted: u64,
+    /// Difference steps by which pairs of versions of sound arenas were audited.
+    pub audit_steps: u64,
     pub kinds: Kinds,
     longest: usize,
     /// How many arenas each part of the sweep had.
@@ -32,8 +34,8 @@ impl Counts {
 
 impl Display for Counts {
     fn fmt(&self, f: &mut Formatter<'_>) -> fmt::Result {
-        let Counts { arenas, sound, calls, refused_on_sound, written_on_sound, formatted, kinds, longest, parts } =
-            self;
+        let Counts { arenas, sound, calls, refused_on_sound, written_on_sound, .. } = self;
+        let Counts { formatted, audit_steps, kinds, longest, parts, .. } = self;
         writeln!(f, "{arenas} arenas of up to {longest} words, {} of them unsound, {sound} sound", arenas - sound)?;
         let parts: Vec<String> = parts.iter().map(|(name, arenas)| format!("{arenas} {name}")).collect();
         writeln!(f, "    {}", parts.join(", "))?;
@@ -46,6 +48,7 @@ impl Display for Counts {
         writeln!(
             f,
             "were refused and changed no word, {written_on_sound} wrote what they ought; {formatted} arenas formatted"
-        )
+        )?;
+        writeln!(f, "{audit_steps} difference steps audited versions of the sound ones")
     }
 }

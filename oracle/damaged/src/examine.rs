@@ -5,9 +5,14 @@ use crate::plain::{self, Plain, listings};
 use checker::Demand;
 use common::random::Random;
 use library::Subject;
-use library::call::{Answer, Bound, Call, End, UNSOUND, Walk, truth};
+use library::call::{Answer, Bound, Call, Differences, End, UNSOUND, Walk, truth};
 use library::lent::Lent;
 use library::outcome::{Outcome, holds, same};
+
+/// How many pairs of slots are audited on a sound arena, and by how many steps at the most: each
+/// step tests the whole arena.
+const PAIRS: usize = 2;
+const STEPS: usize = 40;
 
 /// Who is examined, and by which checker: `left_out` is only given to see that the missing demand is noticed.
 pub struct Examiner<S> {
@@ -70,6 +75,22 @@ impl<S: Subject> Examiner<S> {
             } else {
                 self.write(words, &plain, call, expected, counts)?;
             }
+        }
+        let held = plain.held();
+        let mut pairs = held.windows(2).take(PAIRS);
+        pairs.try_for_each(|two| self.audit(two, words, &plain, counts))
+    }
+
+    /// Difference steps of two slots to END, where that is not far.
+    fn audit(&mut self, two: &[u32], words: &[u32], plain: &Plain, counts: &mut Counts) -> Outcome {
+        let (mut at, mut lent) = (Differences::new(two[0], two[1]), Lent::new(words));
+        for _ in 0..STEPS {
+            let call = Call::Difference { at };
+            let expected = plain.expected(call);
+            self.ask(&mut lent, words, call, expected, counts)?;
+            counts.audit_steps += 1;
+            let Answer::Difference(given) = expected else { return Ok(()) };
+            at = at.stepped(given.key);
         }
         Ok(())
     }
@@ -147,6 +168,8 @@ fn calls(words: &[u32], random: &mut Random) -> Vec<Call> {
         Call::Step { end: End::Front, walk },
         Call::Step { end: End::Back, walk },
         Call::RescaleMark { s },
+        Call::Difference { at: Differences::new(s, t) },
+        Call::Difference { at: Differences { first: t, second: s, given: walk.front } },
     ];
     let first = random.below(calls.len());
     calls.rotate_left(first);

@@ -5,8 +5,8 @@ use crate::sweep::{self, Extent};
 use checker::Demand;
 use common::quiet;
 use common::random::Random;
-use library::call::{ABSENT, Answer, Call, End, NO_VERSION, UNSOUND, Walk};
-use library::layout::{HEAD, node_at};
+use library::call::{ABSENT, Answer, Call, Differences, END, End, NO_VERSION, UNSOUND, Walk};
+use library::layout::{self, HEAD, node_at};
 use library::lent::{Lent, arena_len};
 use library::outcome::Outcome;
 use library::{Library, Subject};
@@ -96,6 +96,26 @@ const FAULTS: &[(&str, Spoil)] = &[
         }
         _ => answer,
     }),
+    ("a difference step on an unsound arena is END", |_, call, answer| match (call, answer) {
+        (Call::Difference { .. }, Answer::Refused(UNSOUND)) => Answer::Refused(END),
+        _ => answer,
+    }),
+    ("a difference step changes the last word of an unsound arena", |lent, call, answer| {
+        if let (Call::Difference { .. }, Answer::Refused(UNSOUND)) = (call, answer)
+            && let Some(last) = lent.words_mut().last_mut()
+        {
+            *last ^= 1;
+        }
+        answer
+    }),
+    ("a difference step forgets the last key given", |lent, call, answer| match call {
+        Call::Difference { at } => {
+            let forgetful = Differences::new(at.first, at.second);
+            Library.call(lent, Call::Difference { at: forgetful })
+        }
+        _ => answer,
+    }),
+    ("a version that is a part of another has no difference to it", part_alike),
     ("format takes a length that is one too long", |lent, call, answer| match call {
         Call::Format { n, v }
             if (1..=2047).contains(&n) && lent.words().len() as u64 == 9 + 2 * u64::from(v) + 6 * u64::from(n) =>
@@ -111,6 +131,22 @@ const FAULTS: &[(&str, Spoil)] = &[
         answer
     }),
 ];
+
+/// END where the root of the second version is a node of the first: so it is in planted arenas.
+fn part_alike(lent: &mut Lent, call: Call, answer: Answer) -> Answer {
+    let (Call::Difference { at }, Answer::Difference(_)) = (call, answer) else { return answer };
+    let root = |s| layout::slot(lent.words(), s).0;
+    let part = part_of(lent.words(), root(at.second), root(at.first));
+    if part { Answer::Refused(END) } else { answer }
+}
+
+fn part_of(words: &[u32], part: u32, whole: u32) -> bool {
+    if whole == 0 || whole == part {
+        return whole != 0;
+    }
+    let node = layout::node(words, whole);
+    part_of(words, part, node.left) || part_of(words, part, node.right)
+}
 
 /// What a run with a fault put in comes to. Only a difference finds the fault, since a panic can have any other cause.
 enum Discovery {

@@ -1,6 +1,7 @@
 //! What document 01 expects of each call on a sound arena, from the listings of its slots.
 use library::call::{ABSENT, BAD_RANGE, BAD_SHAPE, END, NO_ROOM, NO_SLOT, NO_VERSION};
-use library::call::{Answer, Bound, Call, End, Walk, truth};
+use library::call::{Answer, Bound, Call, Difference, Differences, End, Walk, truth};
+use library::call::{IN_BOTH, ONLY_FIRST, ONLY_SECOND};
 use library::layout::{self, NOT_HELD};
 use library::lent::arena_len;
 use std::collections::BTreeSet;
@@ -68,8 +69,13 @@ impl Plain {
             Call::Equal { s, t } => Ok(truth(self.named(s)? == self.named(t)?)),
             Call::Step { end, walk } => step(self.named(walk.slot)?, end, &walk),
             Call::RescaleMark { s } => Ok(truth(find(self.named(s)?, RESCALE_SLOPE).is_some())),
+            Call::Difference { at } => self.difference(at).map(Answer::Difference),
             Call::Format { .. } | Call::Sound => unreachable!("these are asked on unsound arenas too, and so apart"),
         }
+    }
+
+    pub fn held(&self) -> Vec<u32> {
+        (0..self.slots.len() as u32).filter(|s| self.slots[*s as usize].is_some()).collect()
     }
 
     fn named(&self, s: u32) -> Result<&Listing, u32> {
@@ -84,6 +90,21 @@ impl Plain {
         let list = self.named(s)?;
         let slot = self.handed_out()?;
         if self.free < reserve(list) { Err(NO_ROOM) } else { Ok(slot) }
+    }
+
+    /// The least tag above the last key whose entry is not one of the other listing too.
+    fn difference(&self, at: Differences) -> Result<Difference, u32> {
+        let (first, second) = (self.named(at.first)?, self.named(at.second)?);
+        let (one, other) = (own(first, second, at.given), own(second, first, at.given));
+        let key = one.into_iter().chain(other).min().ok_or(END)?;
+        let value = |list: &Listing| find(list, key).map(|e| e.1);
+        let (kind, first, second) = match (value(first), value(second)) {
+            (Some(one), None) => (ONLY_FIRST, one, 0),
+            (None, Some(other)) => (ONLY_SECOND, 0, other),
+            (Some(one), Some(other)) => (IN_BOTH, one, other),
+            (None, None) => unreachable!("a listing has the key"),
+        };
+        Ok(Difference { kind, key, first, second })
     }
 
     /// The listings after an accepted call that writes and gives this answer.
@@ -125,6 +146,13 @@ fn h(n: usize) -> usize {
 
 fn find(list: &Listing, key: u32) -> Option<(u32, u32)> {
     list.iter().copied().find(|e| e.0 == key)
+}
+
+/// The least key above the last one given whose entry the other listing does not have.
+fn own(list: &Listing, other: &Listing, given: (u32, u32)) -> Option<u32> {
+    let mut left = list.iter().filter(|e| given.0 == 0 || e.0 > given.1);
+    // A listing is sorted as a list of pairs too.
+    left.find(|e| other.binary_search(e).is_err()).map(|e| e.0)
 }
 
 fn entry((key, value): (u32, u32)) -> Answer {

@@ -55,6 +55,46 @@ impl Walk {
     }
 }
 
+/// What the caller keeps for a difference step: the two slots, and the last key given, of which the
+/// first word 0 is no and every other is yes.
+#[derive(Clone, Copy, Debug, PartialEq, Eq)]
+pub struct Differences {
+    pub first: u32,
+    pub second: u32,
+    pub given: (u32, u32),
+}
+
+impl Differences {
+    pub fn new(first: u32, second: u32) -> Differences {
+        Differences { first, second, given: (0, 0) }
+    }
+
+    /// What is kept after a step that gave this key.
+    pub fn stepped(self, key: u32) -> Differences {
+        Differences { given: (1, key), ..self }
+    }
+
+    /// The four words that the C function reads.
+    pub fn words(&self) -> [u32; 4] {
+        [self.first, self.second, self.given.0, self.given.1]
+    }
+}
+
+/// The kinds of a difference.
+pub const ONLY_FIRST: u32 = 1;
+pub const ONLY_SECOND: u32 = 2;
+pub const IN_BOTH: u32 = 3;
+
+/// What a difference step gives: the kind, the key and the value in each version, 0 where there is
+/// none.
+#[derive(Clone, Copy, Debug, PartialEq, Eq)]
+pub struct Difference {
+    pub kind: u32,
+    pub key: u32,
+    pub first: u32,
+    pub second: u32,
+}
+
 #[derive(Clone, Copy, Debug, PartialEq, Eq)]
 pub enum Call {
     Format { n: u32, v: u32 },
@@ -73,10 +113,11 @@ pub enum Call {
     Step { end: End, walk: Walk },
     RescaleMark { s: u32 },
     Sound,
+    Difference { at: Differences },
 }
 
-/// The seventeen C functions, in the order of `Call::kind`.
-pub const NAMES: [&str; 17] = [
+/// The eighteen C functions, in the order of `Call::kind`.
+pub const NAMES: [&str; 18] = [
     "format",
     "new",
     "hold",
@@ -94,6 +135,7 @@ pub const NAMES: [&str; 17] = [
     "step back",
     "rescale mark",
     "sound",
+    "step difference",
 ];
 
 impl Call {
@@ -116,6 +158,7 @@ impl Call {
             Call::Step { end: End::Back, .. } => 14,
             Call::RescaleMark { .. } => 15,
             Call::Sound => 16,
+            Call::Difference { .. } => 17,
         }
     }
 
@@ -141,6 +184,7 @@ pub enum Answer {
     Word(u32),
     /// A key and its value.
     Entry(u32, u32),
+    Difference(Difference),
     Refused(u32),
     /// The call wrote beside the place for its answer, or wrote there though it was refused. No call is expected to.
     Astray,

@@ -1,5 +1,5 @@
 //! The C functions as include/foamcorbel.h declares them, and what they answer. The only file of the oracle with unsafe code.
-use crate::call::{Answer, Call, End};
+use crate::call::{Answer, Call, Difference, End};
 use std::ffi::c_void;
 use std::mem::transmute;
 use std::ptr::NonNull;
@@ -57,31 +57,59 @@ functions! {
     fn foamcorbel_step_back(words: *const u32, len: usize, walk: *const u32, entry: *mut u32);
     fn foamcorbel_rescale_mark(words: *const u32, len: usize, s: u32, marked: *mut u32);
     fn foamcorbel_sound(words: *const u32, len: usize, sound: *mut u32);
+    fn foamcorbel_step_difference(words: *const u32, len: usize, at: *const u32, next: *mut u32);
 }
 
 /// What stands around and in the place for an answer before the call.
 const PAINT: u32 = 0xfeed_face;
+
+/// The place for an answer of up to four words, with a word before it and one behind it.
+type Place = [u32; 6];
+
+/// The words of a walk, or of an audit, that a call is lent to read.
+type Kept = [u32; 9];
+
+fn kept(call: Call) -> Kept {
+    match call {
+        Call::Step { walk, .. } => walk.words(),
+        Call::Difference { at } => {
+            let [first, second, given, key] = at.words();
+            [first, second, given, key, PAINT, PAINT, PAINT, PAINT, PAINT]
+        }
+        _ => [PAINT; 9],
+    }
+}
 
 /// How many words the answer has.
 fn answer_words(call: Call) -> usize {
     match call {
         Call::Format { .. } | Call::Release { .. } => 0,
         Call::First { .. } | Call::Last { .. } | Call::Step { .. } => 2,
+        Call::Difference { .. } => 4,
         _ => 1,
     }
 }
 
 impl Functions {
-    /// Makes the call on the words. Every call takes a pointer that may write, so that a call that
+    /// Makes the call on the words. Every call takes pointers that may write, so that a call that
     /// ought only to read could be caught writing.
     pub fn call(&self, words: &mut [u32], call: Call) -> Answer {
+        let mut place: Place = [PAINT; 6];
+        let mut read_only = kept(call);
+        let refusal = self.refusal(words, call, &mut place, &mut read_only);
+        if read_only != kept(call) {
+            return Answer::Astray;
+        }
+        read(refusal, answer_words(call), place)
+    }
+
+    fn refusal(&self, words: &mut [u32], call: Call, place: &mut Place, kept: &mut Kept) -> u32 {
         let (ws, len) = (words.as_mut_ptr(), words.len());
-        let mut place = [PAINT; 4];
-        let out = place[1..].as_mut_ptr();
-        // SAFETY: the words are lent whole and by their length, `out` has room for three words, more
-        // than any answer has, and a walk is nine words; nobody else has any of them while the call
-        // runs.
-        let refusal = unsafe {
+        let (out, kept) = (place[1..].as_mut_ptr(), kept.as_mut_ptr());
+        // SAFETY: the words are lent whole and by their length, `out` has room for five words, more
+        // than any answer has, a walk is nine words and what is kept for a difference step four;
+        // nobody else has any of them while the call runs.
+        unsafe {
             match call {
                 Call::Format { n, v } => (self.foamcorbel_format)(ws, len, n, v),
                 Call::New => (self.foamcorbel_new_version)(ws, len, out),
@@ -96,19 +124,17 @@ impl Functions {
                 Call::Remove { s, key } => (self.foamcorbel_remove)(ws, len, s, key, out),
                 Call::Compare { s, t } => (self.foamcorbel_compare)(ws, len, s, t, out),
                 Call::Equal { s, t } => (self.foamcorbel_equal)(ws, len, s, t, out),
-                Call::Step { end: End::Front, walk } => {
-                    (self.foamcorbel_step_front)(ws, len, walk.words().as_ptr(), out)
-                }
-                Call::Step { end: End::Back, walk } => (self.foamcorbel_step_back)(ws, len, walk.words().as_ptr(), out),
+                Call::Step { end: End::Front, .. } => (self.foamcorbel_step_front)(ws, len, kept, out),
+                Call::Step { end: End::Back, .. } => (self.foamcorbel_step_back)(ws, len, kept, out),
                 Call::RescaleMark { s } => (self.foamcorbel_rescale_mark)(ws, len, s, out),
                 Call::Sound => (self.foamcorbel_sound)(ws, len, out),
+                Call::Difference { .. } => (self.foamcorbel_step_difference)(ws, len, kept, out),
             }
-        };
-        read(refusal, answer_words(call), place)
+        }
     }
 }
 
-fn read(refusal: u32, width: usize, place: [u32; 4]) -> Answer {
+fn read(refusal: u32, width: usize, place: Place) -> Answer {
     let written = if refusal == 0 { width } else { 0 };
     let untouched = |word: &u32| *word == PAINT;
     if !(untouched(&place[0]) && place[1 + written..].iter().all(untouched)) {
@@ -117,7 +143,12 @@ fn read(refusal: u32, width: usize, place: [u32; 4]) -> Answer {
     match (refusal, width) {
         (0, 0) => Answer::Done,
         (0, 1) => Answer::Word(place[1]),
-        (0, _) => Answer::Entry(place[1], place[2]),
+        (0, 2) => Answer::Entry(place[1], place[2]),
+        (0, _) => Answer::Difference(difference(place)),
         _ => Answer::Refused(refusal),
     }
+}
+
+fn difference([_, kind, key, first, second, _]: Place) -> Difference {
+    Difference { kind, key, first, second }
 }

@@ -2,6 +2,7 @@
 //! `crates/trees/specs` and `crates/heights/specs`, line beside line, under the same names.
 #![forbid(unsafe_code)]
 
+pub mod difference;
 pub mod edit;
 pub mod height;
 pub mod insert;

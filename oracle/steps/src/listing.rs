@@ -82,7 +82,7 @@ fn cut_onto(result: &mut Vec<Entry>, k: u32, list: &[Entry]) {
 }
 
 /// Listing.antt: firstOf
-pub fn first_of(list: &[Entry]) -> Option<Entry> {
+pub fn first_of<T: Copy>(list: &[T]) -> Option<T> {
     match list {
         [] => None,
         [e, ..] => Some(*e),

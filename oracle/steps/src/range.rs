@@ -68,7 +68,7 @@ pub fn remains(w: &Range, e: Entry) -> bool {
 }
 
 /// Range.antt: keep
-pub fn keep(p: impl Fn(Entry) -> bool, list: &[Entry]) -> Vec<Entry> {
+pub fn keep<T: Copy>(p: impl Fn(T) -> bool, list: &[T]) -> Vec<T> {
     list.iter().copied().filter(|e| p(*e)).collect()
 }
 

@@ -171,11 +171,11 @@ pub const FAULTS: &[(&str, Spoil)] = &[
     }),
 ];
 
-fn entries(words: &[u32], s: u32) -> Vec<(u32, u32)> {
+pub fn entries(words: &[u32], s: u32) -> Vec<(u32, u32)> {
     layout::listing(words, layout::slot(words, s).0)
 }
 
-fn held(words: &[u32], s: u32) -> bool {
+pub fn held(words: &[u32], s: u32) -> bool {
     (s as usize) < layout::slots(words) && layout::slot(words, s).0 != layout::NOT_HELD
 }
 

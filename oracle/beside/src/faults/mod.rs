@@ -1,5 +1,6 @@
 //! Faults put into the library's answers and words on purpose: each has to be found, or the comparison is blind there.
 mod answers;
+mod differences;
 mod words;
 
 use crate::counts::Counts;
@@ -31,7 +32,7 @@ impl Subject for Faulty {
 }
 
 pub fn run(seed: u64) -> Outcome {
-    let faults: Vec<(&str, Spoil)> = answers::FAULTS.iter().chain(words::FAULTS).copied().collect();
+    let faults = [answers::FAULTS, words::FAULTS, differences::FAULTS].concat();
     let mut missed = Vec::new();
     for (name, spoil) in &faults {
         let (mut outcome, mut counts) = (Ok(()), Counts::default());
