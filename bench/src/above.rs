@@ -3,8 +3,9 @@
 use crate::revision::Revision;
 use crate::shown::{number, ratio};
 use crate::timing::{by_turns, least_of_passes, least_times_if, median, nanos, rounds, see, time, time_if};
-use library::call::{Answer, Call, truth};
+use library::call::{Call, truth};
 use library::lent::Lent;
+use std::fmt::Debug;
 use std::hint::black_box;
 use std::ops::Range;
 
@@ -16,20 +17,38 @@ const PASSES: usize = 4;
 
 /// Questions about a sound arena, for public calls, for the functions below the test, and for rpds.
 pub trait Questions {
+    type Answer: PartialEq + Debug;
+
     fn count(&self) -> usize;
 
-    fn call(&self, question: usize) -> Call;
+    /// What the revision's public call answers; none where there is no such call.
+    fn call(&self, revision: &Revision, lent: &mut Lent, question: usize) -> Option<Self::Answer>;
 
     /// What the revision's function below the test answers; none where there is no such function.
-    fn below(&self, revision: &Revision, words: &[u32], which: Range<usize>, see: impl FnMut(Answer)) -> Option<()>;
+    fn below(
+        &self,
+        revision: &Revision,
+        words: &[u32],
+        which: Range<usize>,
+        see: impl FnMut(Self::Answer),
+    ) -> Option<()>;
 
-    fn rpds(&self, which: Range<usize>, see: impl FnMut(Answer));
+    /// What rpds answers; none where it answers no question by itself.
+    fn rpds(&self, which: Range<usize>, see: impl FnMut(Self::Answer)) -> Option<()>;
+
+    /// The right answers to all questions, which are rpds's.
+    fn right(&self) -> Vec<Self::Answer> {
+        let mut right = Vec::new();
+        let answered = self.rpds(0..self.count(), |answer| right.push(answer));
+        answered.expect("rpds answers each question");
+        right
+    }
 }
 
 /// Nanoseconds of one question by one way of timing: of each revision, and of rpds.
 pub struct Row {
-    way: &'static str,
-    ours: Vec<Option<f64>>,
+    pub way: &'static str,
+    pub ours: Vec<Option<f64>>,
     rpds: Option<f64>,
 }
 
@@ -63,22 +82,22 @@ pub fn rows(questions: &impl Questions, revisions: &[Revision], lent: &mut Lent)
     }
     rows.push(after_a_test(questions, revisions, lent, few));
     let rpds = rows[0].rpds;
-    let (least, medians) = differences(questions, revisions, lent, few);
+    let (least, medians) = calls_less_tests(questions, revisions, lent, few);
     rows.push(Row { way: "call less test, the least times", ours: least, rpds });
     rows.push(Row { way: "call less test, the median", ours: medians, rpds });
     rows
 }
 
 fn check(questions: &impl Questions, revision: &Revision, lent: &mut Lent) {
+    let (right, mut below) = (questions.right(), Vec::new());
     let all = 0..questions.count();
-    let (mut right, mut below) = (Vec::new(), Vec::new());
-    questions.rpds(all.clone(), |answer| right.push(answer));
     if questions.below(revision, lent.words(), all, |answer| below.push(answer)).is_some() {
         assert!(below == right, "{}: below the test rpds's answers are given", revision.name);
     }
     for (i, right) in right.into_iter().enumerate().take(FEW) {
-        let made = questions.call(i);
-        assert_eq!(revision.call(lent, made), right, "{}: {made:?}", revision.name);
+        if let Some(answer) = questions.call(revision, lent, i) {
+            assert_eq!(answer, right, "{}: question {i}", revision.name);
+        }
     }
 }
 
@@ -88,7 +107,7 @@ fn by_itself(way: &'static str, questions: &impl Questions, revisions: &[Revisio
     let asked = |i: usize| {
         match revisions.get(i) {
             Some(revision) => questions.below(revision, black_box(words), 0..count, see)?,
-            None => questions.rpds(0..count, see),
+            None => questions.rpds(0..count, see)?,
         }
         Some(())
     };
@@ -109,7 +128,7 @@ fn after_a_test(questions: &impl Questions, revisions: &[Revision], lent: &mut L
         let taken = time_if(|| {
             match revisions.get(i) {
                 Some(revision) => questions.below(revision, lent.words(), which, see)?,
-                None => questions.rpds(which, see),
+                None => questions.rpds(which, see)?,
             }
             Some(())
         });
@@ -125,50 +144,55 @@ fn after_a_test(questions: &impl Questions, revisions: &[Revision], lent: &mut L
 
 /// A revision's least times by question, of the call and of a test as often timed, and every
 /// difference of the two.
-struct Differences {
+struct CallsLessTests<'a> {
+    revision: &'a Revision,
     calls: Vec<f64>,
     tests: Vec<f64>,
     all: Vec<f64>,
 }
 
-impl Differences {
-    fn new(questions: usize) -> Differences {
+impl CallsLessTests<'_> {
+    fn new(revision: &Revision, questions: usize) -> CallsLessTests<'_> {
         let none = vec![f64::INFINITY; questions];
-        Differences { calls: none.clone(), tests: none, all: Vec::new() }
+        CallsLessTests { revision, calls: none.clone(), tests: none, all: Vec::new() }
     }
 
-    /// Times a test and a call. One test runs before them, so that neither comes right after the
-    /// other revision's code.
-    fn note(&mut self, revision: &Revision, lent: &mut Lent, question: usize, made: Call) {
-        let mut timed = |made: Call| nanos(time(|| see(revision.call(black_box(lent), made))));
-        timed(Call::Sound);
-        let (test, call) = (timed(Call::Sound), timed(made));
+    /// Times a test and a call, if there is such a call. One test runs before them, so that neither
+    /// comes right after the other revision's code.
+    fn note(&mut self, questions: &impl Questions, lent: &mut Lent, question: usize) {
+        let revision = self.revision;
+        let mut test = || nanos(time(|| see(revision.call(black_box(lent), Call::Sound))));
+        test();
+        let test = test();
+        let call = time_if(|| questions.call(revision, black_box(lent), question).map(see));
+        let Some(call) = call.map(nanos) else { return };
         self.calls[question] = self.calls[question].min(call);
         self.tests[question] = self.tests[question].min(test);
         self.all.push(call - test);
     }
 
+    /// None where no call was timed.
     fn of_least(&self) -> Option<f64> {
         let differences = self.calls.iter().zip(&self.tests).map(|(call, test)| call - test);
-        Some(differences.sum::<f64>() / self.calls.len() as f64)
+        (!self.all.is_empty()).then(|| differences.sum::<f64>() / self.calls.len() as f64)
     }
 }
 
 /// By revision, the mean of the least calls less the least tests, and the median of call less test.
-fn differences(
+fn calls_less_tests(
     questions: &impl Questions,
     revisions: &[Revision],
     lent: &mut Lent,
     few: usize,
 ) -> (Vec<Option<f64>>, Vec<Option<f64>>) {
-    let mut kept: Vec<Differences> = revisions.iter().map(|_| Differences::new(few)).collect();
+    let new = |revision| CallsLessTests::new(revision, few);
+    let mut kept: Vec<CallsLessTests> = revisions.iter().map(new).collect();
     let mut ask_all = |turn, question| {
-        let made = questions.call(question);
-        by_turns(turn, revisions.len()).for_each(|i| kept[i].note(&revisions[i], lent, question, made));
+        by_turns(turn, revisions.len()).for_each(|i| kept[i].note(questions, lent, question));
     };
     for _ in 0..PASSES {
         rounds(|round| (0..few).for_each(|question| ask_all(round + question, question)));
     }
-    let least = kept.iter().map(Differences::of_least).collect();
+    let least = kept.iter().map(CallsLessTests::of_least).collect();
     (least, kept.into_iter().map(|kept| median(kept.all)).collect())
 }

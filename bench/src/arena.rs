@@ -24,6 +24,29 @@ pub struct Arena {
     pub keys: Vec<u32>,
 }
 
+/// An edit of a version.
+#[derive(Clone, Copy)]
+pub enum Edit {
+    Set(u32, u32),
+    Cut(u32),
+}
+
+impl Edit {
+    fn call(self, s: u32) -> Call {
+        match self {
+            Edit::Set(key, value) => Call::Insert { s, key, value },
+            Edit::Cut(key) => Call::Remove { s, key },
+        }
+    }
+
+    fn apply(self, map: &mut Map) {
+        match self {
+            Edit::Set(key, value) => map.insert_mut(key, value),
+            Edit::Cut(key) => assert!(map.remove_mut(&key), "a key that is cut was there"),
+        }
+    }
+}
+
 /// "H(0) = 0 and otherwise H(n) = 2 × floor(log2(n+1))."
 pub fn height(n: usize) -> usize {
     if n == 0 { 0 } else { 2 * (n + 1).ilog2() as usize }
@@ -43,14 +66,21 @@ impl Arena {
         arena
     }
 
-    /// Two versions of the same entries that share no node, built in opposite orders, and a third
-    /// that shares with the second and has another value at the greatest key.
-    pub fn built_apart(n: u32, v: u32, entries: usize) -> Arena {
+    /// Two versions of the same keys that share no node, built in opposite orders; each value of
+    /// the second is so much more.
+    pub fn apart(n: u32, v: u32, entries: usize, more: u32) -> Arena {
         let mut arena = Arena::formatted(n, v);
         arena.build((0..entries).map(|i| (key(i), i as u32)));
-        arena.build((0..entries).rev().map(|i| (key(i), i as u32)));
+        arena.build((0..entries).rev().map(|i| (key(i), i as u32 + more)));
         let free = n - 2 * entries as u32;
         assert_eq!(word(&mut arena.lent, Call::FreeNodes), free, "no node is shared");
+        arena
+    }
+
+    /// Two versions of the same entries that share no node, and a third that shares with the second
+    /// and has another value at the greatest key.
+    pub fn built_apart(n: u32, v: u32, entries: usize) -> Arena {
+        let mut arena = Arena::apart(n, v, entries, 0);
         arena.add_version(1, 0);
         assert_ne!(arena.maps[1], arena.maps[2], "there was room for the third version");
         arena
@@ -63,13 +93,25 @@ impl Arena {
         Arena { lent, slots: Vec::new(), maps: Vec::new(), keys: Vec::new() }
     }
 
-    /// Adds a version of these entries, each inserted into the version before, which is released.
+    /// Adds a version of these entries.
     fn build(&mut self, entries: impl Iterator<Item = (u32, u32)>) {
-        let (mut slot, mut map) = (word(&mut self.lent, Call::New), Map::new());
-        for (key, value) in entries {
-            let next = word(&mut self.lent, Call::Insert { s: slot, key, value });
+        let empty = (word(&mut self.lent, Call::New), Map::new());
+        self.grow(empty, entries.map(|(key, value)| Edit::Set(key, value)));
+    }
+
+    /// Adds the version that these edits make of the newest, which stays.
+    pub fn edit(&mut self, edits: impl IntoIterator<Item = Edit>) {
+        let (s, map) = (self.newest(), self.newest_map().clone());
+        let held = (word(&mut self.lent, Call::Hold { s }), map);
+        self.grow(held, edits);
+    }
+
+    /// Adds what the edits make of a slot and its map; each version on the way there is released.
+    fn grow(&mut self, (mut slot, mut map): (u32, Map), edits: impl IntoIterator<Item = Edit>) {
+        for edit in edits {
+            let next = word(&mut self.lent, edit.call(slot));
             expect(&mut self.lent, Call::Release { s: slot }, Answer::Done);
-            map.insert_mut(key, value);
+            edit.apply(&mut map);
             slot = next;
         }
         self.keys = map.keys().copied().collect();

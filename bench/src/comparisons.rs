@@ -4,6 +4,7 @@ use crate::arena::{Arena, Map, Plan};
 use crate::revision::Revision;
 use library::call::{Answer, Call};
 use library::layout::slot;
+use library::lent::Lent;
 use std::hint::black_box;
 use std::ops::Range;
 
@@ -27,12 +28,14 @@ impl Comparison {
 }
 
 impl Questions for Comparison {
+    type Answer = Answer;
+
     fn count(&self) -> usize {
         1
     }
 
-    fn call(&self, _: usize) -> Call {
-        Call::Compare { s: self.slots.0, t: self.slots.1 }
+    fn call(&self, revision: &Revision, lent: &mut Lent, _: usize) -> Option<Answer> {
+        Some(revision.call(lent, Call::Compare { s: self.slots.0, t: self.slots.1 }))
     }
 
     fn below(
@@ -46,9 +49,10 @@ impl Questions for Comparison {
         which.map(|_| unsafe { revision.compare(words, self.roots, &mut see) }).collect()
     }
 
-    fn rpds(&self, which: Range<usize>, mut see: impl FnMut(Answer)) {
+    fn rpds(&self, which: Range<usize>, mut see: impl FnMut(Answer)) -> Option<()> {
         let (one, other) = &self.maps;
         which.for_each(|_| see(Answer::Word(black_box(one).cmp(black_box(other)) as i32 as u32)));
+        Some(())
     }
 }
 

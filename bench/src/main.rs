@@ -4,12 +4,17 @@
 mod above;
 mod answers;
 mod arena;
+mod audits;
 mod by_size;
 mod bytes;
 mod calls;
 mod comparisons;
 mod descents;
+mod difference;
+mod difference_steps;
 mod history;
+mod pair;
+mod pairs;
 mod plot;
 mod program;
 mod revision;
@@ -35,12 +40,13 @@ type Section = (&'static str, fn(&[Revision]));
 
 /// What is printed of two revisions, by the names that can be asked for. The bytes come first: how
 /// many rpds takes of the heap depends on what was done with it before.
-const SECTIONS: [Section; 7] = [
+const SECTIONS: [Section; 8] = [
     ("bytes", bytes_table),
     ("soundness", soundness_of_two),
     ("compare", comparisons::table),
     ("steps", steps::table),
     ("list", program::table),
+    ("differences", differences_of_two),
     ("get", descents::tables),
     ("calls", calls_of_two),
 ];
@@ -101,6 +107,13 @@ fn soundness_of_two(revisions: &[Revision]) {
         println!("\n## On planted arenas, the nodes in the order of the keys, {} in a row\n", run as usize);
         soundness::table(revisions, &mut soundness::planted(), run, PASSES);
     }
+}
+
+/// A revision may lack the difference step: its times are left out then.
+fn differences_of_two(revisions: &[Revision]) {
+    let mut pairs = pairs::checked(revisions);
+    difference_steps::table(revisions, &pairs);
+    audits::table(revisions, &mut pairs);
 }
 
 fn bytes_table(revisions: &[Revision]) {

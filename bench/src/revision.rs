@@ -1,5 +1,6 @@
 //! A build of the library: the one that is linked, or that of a revision in shared objects, so that
 //! two can be called in one process.
+use crate::difference::{self, DifferenceStep};
 use library::call::{Answer, Bound, Call, END, End, Walk};
 use library::functions::{Functions, LINKED};
 use library::lent::Lent;
@@ -25,13 +26,13 @@ type Compare = unsafe extern "C" fn(*mut u8, *const Slice, u32, u32);
 type Step = unsafe extern "C" fn(*mut Found, *const Slice, u32, *const Range);
 
 #[repr(C)]
-struct Slice {
+pub struct Slice {
     words: *const u32,
     len: usize,
 }
 
 impl Slice {
-    fn of(words: &[u32]) -> Slice {
+    pub fn of(words: &[u32]) -> Slice {
         Slice { words: words.as_ptr(), len: words.len() }
     }
 }
@@ -48,9 +49,9 @@ struct Found {
 /// A case of an enum and the key in it: `ranges::Bound` and `ranges::LastKey`.
 #[repr(C)]
 #[derive(Clone, Copy)]
-struct Case {
-    number: u8,
-    key: u32,
+pub struct Case {
+    pub number: u8,
+    pub key: u32,
 }
 
 /// `ranges::Range`: what a walk keeps besides its slot.
@@ -84,6 +85,8 @@ struct Inner {
 pub struct Revision {
     /// What the tables call it.
     pub name: &'static str,
+    /// By itself, as an earlier revision may lack it.
+    pub difference: DifferenceStep,
     functions: &'static Functions,
     inner: Inner,
     /// The folder of a revision's files.
@@ -92,7 +95,8 @@ pub struct Revision {
 
 impl Revision {
     pub fn linked() -> Revision {
-        Revision { name: "ours", functions: &LINKED, inner: Inner::default(), folder: PathBuf::new() }
+        let (difference, inner) = (DifferenceStep::default(), Inner::default());
+        Revision { name: "ours", difference, functions: &LINKED, inner, folder: PathBuf::new() }
     }
 
     /// The objects are never closed: their functions are called until the process ends.
@@ -102,12 +106,19 @@ impl Revision {
     pub unsafe fn open(name: &'static str, folder: &str) -> Revision {
         let folder = PathBuf::from(folder);
         let object = Object::open(&folder.join("library.so"));
+        let step = object.find(difference::NAME);
+        let place = |name: &str| match name {
+            difference::NAME => step.unwrap_or_else(difference::stand_in),
+            _ => object.place(name),
+        };
         // SAFETY: the caller's.
-        let functions = unsafe { Functions::at(|name| object.place(name)) };
+        let functions = unsafe { Functions::at(place) };
         let inner = |file: &str| {
             let file = folder.join(file);
             file.exists().then(|| Object::open(&file).place("inner"))
         };
+        // SAFETY: the caller's.
+        let difference = unsafe { DifferenceStep::at(step, inner("next_difference.so")) };
         // SAFETY: the caller's.
         let inner = unsafe {
             Inner {
@@ -117,7 +128,7 @@ impl Revision {
                 step_back: inner("step_back.so").map(|place| transmute::<NonNull<c_void>, Step>(place)),
             }
         };
-        Revision { name, functions: Box::leak(Box::new(functions)), inner, folder }
+        Revision { name, difference, functions: Box::leak(Box::new(functions)), inner, folder }
     }
 
     pub fn program(&self) -> PathBuf {
@@ -198,10 +209,14 @@ impl Object {
         Object { file: file.to_path_buf(), handle }
     }
 
-    fn place(&self, name: &str) -> NonNull<c_void> {
+    /// None where the object has no such name.
+    fn find(&self, name: &str) -> Option<NonNull<c_void>> {
         let symbol = CString::new(name).expect("a name without a zero byte");
         // SAFETY: the object is open and the name is a string of C's.
-        let place = NonNull::new(unsafe { dlsym(self.handle.as_ptr(), symbol.as_ptr()) });
-        place.unwrap_or_else(|| panic!("{} has no {name}", self.file.display()))
+        NonNull::new(unsafe { dlsym(self.handle.as_ptr(), symbol.as_ptr()) })
+    }
+
+    fn place(&self, name: &str) -> NonNull<c_void> {
+        self.find(name).unwrap_or_else(|| panic!("{} has no {name}", self.file.display()))
     }
 }

@@ -6,6 +6,7 @@ use crate::revision::{self, Revision};
 use common::random::Random;
 use library::call::{self, Answer, Call, END, End, UNBOUNDED, Walk};
 use library::layout::slot;
+use library::lent::Lent;
 use std::hint::black_box;
 use std::ops::Bound::{self, Excluded, Included, Unbounded};
 use std::ops::Range;
@@ -58,12 +59,14 @@ fn bounds(walk: &Walk) -> (Bound<u32>, Bound<u32>) {
 }
 
 impl Questions for Steps<'_> {
+    type Answer = Answer;
+
     fn count(&self) -> usize {
         self.walks.len()
     }
 
-    fn call(&self, question: usize) -> Call {
-        Call::Step { end: self.end, walk: self.walks[question] }
+    fn call(&self, revision: &Revision, lent: &mut Lent, question: usize) -> Option<Answer> {
+        Some(revision.call(lent, Call::Step { end: self.end, walk: self.walks[question] }))
     }
 
     fn below(&self, revision: &Revision, words: &[u32], which: Range<usize>, see: impl FnMut(Answer)) -> Option<()> {
@@ -71,13 +74,14 @@ impl Questions for Steps<'_> {
         unsafe { revision.step(words, self.root, (self.end, &self.ranges[which]), see) }
     }
 
-    fn rpds(&self, which: Range<usize>, mut see: impl FnMut(Answer)) {
+    fn rpds(&self, which: Range<usize>, mut see: impl FnMut(Answer)) -> Option<()> {
         let map = black_box(self.map);
         for bounds in &self.bounds[which] {
             let mut range = map.range::<u32, _>(*bounds);
             let entry = if self.end == End::Front { range.next() } else { range.next_back() };
             see(entry.map_or(Answer::Refused(END), |(key, value)| Answer::Entry(*key, *value)));
         }
+        Some(())
     }
 }
 
