@@ -1,5 +1,6 @@
-/* What differs between two versions where the way to it is long: down the tallest trees, and past
- * many equal entries that are not shared. Answers are read off docs/RULES.md: 4.23, 4.24, 9.21. */
+/* What differs between two versions where the way to it is long: down the tallest trees, past many
+ * equal entries that are not shared, and at the last node. Answers are read off docs/RULES.md:
+ * 4.23, 4.24, 9.21. */
 #include "planted.h"
 #include "stepping.h"
 
@@ -83,6 +84,35 @@ static void long_run(void)
     edited_at_the_left(falling);
 }
 
+/* Node i with the value 10 times its key, no left child, and one name. */
+static void write_node(uint32_t i, uint32_t key, uint32_t right, uint32_t color)
+{
+    const uint32_t node[] = { key, 10 * key, 0, right, color, 1 };
+    for (int word = 0; word < 6; word++) {
+        words[6 * i + 2 + word] = node[word];
+    }
+}
+
+/* The last node that there is hangs at one of two nodes with the same entry: it is no missing
+ * child. */
+static void last_node(void)
+{
+    uint32_t sound = 0, *slots;
+    start(MOST_NODES, 2);
+    slots = words + 6 * MOST_NODES + 8;
+    write_node(1, 5, MOST_NODES, 1);
+    write_node(MOST_NODES, 6, 0, 0);
+    write_node(2, 5, 0, 1);
+    words[2] = 3;                        /* the free nodes are 3 .. */
+    words[6 * (MOST_NODES - 1) + 4] = 0; /* .. to the last but one */
+    slots[0] = 1, slots[1] = 2;
+    slots[2] = 2, slots[3] = 1;
+    EXPECT(foamcorbel_sound(words, len, &sound) == FOAMCORBEL_ACCEPTED && sound == 1);
+    EXPECT(gives(between(0, 1), only_first(6, 60)));
+    EXPECT(gives(above(1, 0, 5), only_second(6, 60)));
+    EXPECT(refused(above(0, 1, 6), FOAMCORBEL_END));
+}
+
 int main(void)
 {
     for (int way = LEFTWARD; way <= RIGHT_THEN_LEFT; way++) {
@@ -91,5 +121,6 @@ int main(void)
         deep(SINGLE, TALL);
     }
     long_run();
+    last_node();
     return report("deep_differences");
 }
