@@ -1,4 +1,6 @@
 // Module 1 (RULES 6.1): `lg_floor` and `conservative_height` of rpds's red_black_tree_map.
+#![tactic(auto)]
+
 ghost use Rattle.std.specs.Prelude.{◌≡◌, ◌<◌};
 ghost use Rattle.heights.specs.Height.{lg, H as heightOf};
 

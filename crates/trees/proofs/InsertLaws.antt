@@ -100,16 +100,17 @@ near_red (Balance.calm s) a b = red_root a b
 
 -- A node in the place of another, whose children keep their shape and colour.
 rb_same : {n : ℕ} {c : Color} {p q : Place} {l r l' r' : Tree} {e f : Entry} → Rb n (node p c l e r) →
-    Rb (levels_below c n) l' × (is_red l' ≡ is_red l) → Rb (levels_below c n) r' × (is_red r' ≡ is_red r) → Rb n (node q c l' f r')
-rb_same (rb_red i j a b) g h = rb_red (g.1 ∙ i) (h.1 ∙ j) g.0 h.0
-rb_same (rb_black a b) g h = rb_black g.0 h.0
+    Rb (levels_below c n) l' × (is_red l' ≡ is_red l) → Rb (levels_below c n) r' × (is_red r' ≡ is_red r) →
+    Rb n (node q c l' f r') × (is_red (node q c l' f r') ≡ is_red (node p c l e r))
+rb_same (rb_red i j a b) g h = (rb_red (g.1 ∙ i) (h.1 ∙ j) g.0 h.0, refl)
+rb_same (rb_black a b) g h = (rb_black g.0 h.0, refl)
 
 module _ {x : Entry} where
   -- A replaced entry keeps the shape and the root's colour.
   rb_replaced : {n : ℕ} {t u : Tree} → Ins x true t u → Rb n t → Rb n u × (is_red u ≡ is_red t)
-  rb_replaced (Ins.here h) a = let b = parts a in (rb_same a (b.0, refl) (b.1, refl), refl)
-  rb_replaced (Ins.left h g still) a = let b = parts a in (rb_same a (rb_replaced g b.0) (b.1, refl), refl)
-  rb_replaced (Ins.right h g still) a = let b = parts a in (rb_same a (b.0, refl) (rb_replaced g b.1), refl)
+  rb_replaced (Ins.here h) a = let b = parts a in rb_same a (b.0, refl) (b.1, refl)
+  rb_replaced (Ins.left h g still) a = let b = parts a in rb_same a (rb_replaced g b.0) (b.1, refl)
+  rb_replaced (Ins.right h g still) a = let b = parts a in rb_same a (b.0, refl) (rb_replaced g b.1)
 
   -- A new one leaves a red root with perhaps a red child.
   rb_new : {n : ℕ} {t u : Tree} → Ins x false t u → Rb n t → Near n u × (is_red t ≡ false → Rb n u)

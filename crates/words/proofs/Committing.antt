@@ -8,7 +8,7 @@ use native.Mathlib.Decide.{dec_le}
 use borrow.Author.Tests.{eq-eqb, ne_eqb}
 use Rattle.trees.specs.Tree.{Entry, Color, Place, kept, fresh, Tree, leaf, node, made}
 use Rattle.trees.proofs.Sharing.{AllKept}
-use Rattle.words.specs.Layout.{head, count}
+use Rattle.words.specs.Layout.{head, left, right, count}
 use Rattle.words.specs.Counting.{occ}
 use Rattle.words.specs.Reads.{Reads}
 use Rattle.words.specs.Owned.{Live, Owned, idles}
@@ -37,7 +37,7 @@ pub record Builds (Valid : ℕ → Tree → ℕ → Type 0) (n v : ℕ) (R ws : 
 -- A tree in the arena has no fresh node.
 pub reads_made : (n : ℕ) (ws : List ℕ) (i : ℕ) (t : Tree) → Reads n ws i t → made t ≡ 0
 reads_made n ws i leaf r = refl
-reads_made n ws i (node (kept j) c l e r') r = omega (arith, reads_made n ws _ l r.2, reads_made n ws _ r' r.3)
+reads_made n ws i (node (kept j) c l e r') r = omega (arith, reads_made n ws (left ws i) l r.2, reads_made n ws (right ws i) r' r.3)
 reads_made n ws i (node fresh c l e r') r = absurd (never r.0)
   where
     is_kept : Place → Type 0
