@@ -1,9 +1,9 @@
 #!/usr/bin/env python3
 """Brings the repository's own names to the spelling of today's Rattle, after port.py and once.
 
-Functions, lemmas, constructors and fields are in snake case. A dash stays where it joins the names of
-two definitions of specs/ (`listing-insert`), and where a type begins the name (`All-append`'s form);
-before a plain word it becomes an underscore. Names of Rust code, types and modules stay as they are.
+Functions, lemmas, constructors and fields are in snake case. A dash stays in the name of a lemma of
+proofs/ where it joins the names of two definitions of specs/ (`listing-insert`) or a type to one;
+elsewhere it becomes an underscore. Names of Rust code, types and modules stay as they are.
 The edits of must-fail/ are respelled with the sources that they name: names, paths, operators,
 projections and the brackets of clauses.
 
@@ -34,6 +34,7 @@ CHOSEN = {
     "turned_left": "turns_left",
     "turned_right": "turns_right",
     "or-else": "past_or",
+    "free-number": "free_number_is",
 }
 # Two spellings of one name, of which port.py had turned one.
 TOGETHER = {"and_then"}
@@ -64,21 +65,26 @@ def snake(name):
 
 
 def names():
-    own, functions = set(), set()
+    """All declared names; those of functions in specs/; those that are no lemma at a file's top."""
+    own, functions, plain = set(), set(), set()
     for path in texts("crates/*/specs/**/*.antt", "crates/*/proofs/*.antt"):
         for name, top in declared(path):
             own.add(name)
+            if not top or "/specs/" in path:
+                plain.add(name)
             if top and "/specs/" in path and "◌" not in name:
                 functions.add(snake(name))
-    return own, functions
+    return own, functions, plain
 
 
-def respelled(name, functions):
+def respelled(name, functions, plain):
     if name in CHOSEN:
         return CHOSEN[name]
     if "◌" in name:
         return "◌".join(snake(p) for p in name.split("◌"))
     parts = [snake(p) for p in name.split("-")]
+    if name in plain:
+        return "_".join(parts)
     out = parts[0]
     for before, part in zip(parts, parts[1:]):
         joins = is_named(before, functions) and is_named(part, functions)
@@ -91,8 +97,8 @@ def is_named(part, functions):
 
 
 def table():
-    own, functions = names()
-    turned = {n: respelled(n, functions) for n in own}
+    own, functions, plain = names()
+    turned = {n: respelled(n, functions, plain) for n in own}
     turned = {old: new for old, new in turned.items() if old != new}
     for old in list(turned):
         if "◌" in old:

@@ -49,7 +49,7 @@ module _ {ws : List ℕ} {i j : ℕ} {a : List ℕ} {p : ℕ} {b : List ℕ} {q 
         other = waiting ws b' d.other;
         one_is = P.one_is ∙ ap (λ (l : List Entry). P.alike ++ l) M.one_is ∙ sym (append_assoc P.alike M.alike (waiting ws a' d.one));
         other_is = P.other_is ∙ ap (λ (l : List Entry). P.alike ++ l) M.other_is ∙ sym (append_assoc P.alike M.alike (waiting ws b' d.other));
-        one-first = h.first;
+        one_first = h.first;
         other_first = g.first;
         apart = sym k ∙ e;
       }
@@ -65,11 +65,11 @@ module _ {ws : List ℕ} {i j : ℕ} {a : List ℕ} {p : ℕ} {b : List ℕ} {q 
     other_topped = topped M.other (no_top ws b' d.other both.other_is)
 
     module _ {x : Side} (X : Pops ws a' d.one x) where
-      one-next : waiting ws a' d.one ≡ both.entry ∷ ahead ws x.link a' x.depth
-      one-next = let z = X.waiting_is in let y = both.one_is in cc
+      one_next : waiting ws a' d.one ≡ both.entry ∷ ahead ws x.link a' x.depth
+      one_next = let z = X.waiting_is in let y = both.one_is in cc
 
       pub passes_falls : length (ahead ws x.link a' x.depth) < length (ahead ws i a p)
-      passes_falls = rw (M.one_is, one-next) (rw (length-append M.alike (both.entry ∷ _)) (omega arith))
+      passes_falls = rw (M.one_is, one_next) (rw (length-append M.alike (both.entry ∷ _)) (omega arith))
 
       module _ {y : Side} (Y : Pops ws b' d.other y) where
         other_next : waiting ws b' d.other ≡ both.entry ∷ ahead ws y.link b' y.depth
@@ -81,7 +81,7 @@ module _ {ws : List ℕ} {i j : ℕ} {a : List ℕ} {p : ℕ} {b : List ℕ} {q 
               one = X.stands;
               other = Y.stands;
               alike = P.alike ++ (M.alike ++ (both.entry ∷ []));
-              one_is = beyond P.alike M.alike P.one_is M.one_is one-next;
+              one_is = beyond P.alike M.alike P.one_is M.one_is one_next;
               other_is = beyond P.alike M.alike P.other_is M.other_is other_next;
             }
 

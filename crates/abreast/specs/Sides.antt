@@ -81,7 +81,7 @@ pub record Parts (xs ys : List Entry) (r : Heads) : Type 0 where
   pub other : List Entry
   pub one_is : xs ≡ alike ++ one
   pub other_is : ys ≡ alike ++ other
-  pub one-first : found_of r.one ≡ first_of one
+  pub one_first : found_of r.one ≡ first_of one
   pub other_first : found_of r.other ≡ first_of other
   pub apart : alike_heads (found_of r.one) (found_of r.other) ≡ false
 

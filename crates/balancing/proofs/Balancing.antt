@@ -76,8 +76,8 @@ black_code c e f = code_same c black (sym f ∙ e)
 
 module _ {ws p p' : List ℕ} {x : Node} {res : ℕ} (B : x.color ≡ 1) where
   module _ {l m : Node} (L : Looks ws p x.left l) (M : Looks ws p l.left m) {b : Bool} (e : b ≡ eqb l.color 0 && eqb m.color 0) where
-    pub left-left : b ≡ true → Rises ws p p' m l (with_left x l.right) res → Steps ws p p' balance_room x res balance
-    left-left f S = record {
+    pub left_left : b ≡ true → Rises ws p p' m l (with_left x l.right) res → Steps ws p p' balance_room x res balance
+    left_left f S = record {
       grown = S.grown;
       holds = λ {c} {a} {b} k ha hb.
           let o = L.sees ha in
@@ -86,9 +86,9 @@ module _ {ws p p' : List ℕ} {x : Node} {res : ℕ} (B : x.color ≡ 1) where
           (S.holds q.left_is q.right_is o.right_is hb);
     }
 
-    pub left-right : {n : Node} {d : Bool} → b ≡ false → Looks ws p l.right n → d ≡ eqb l.color 0 && eqb n.color 0 → d ≡ true →
+    pub left_right : {n : Node} {d : Bool} → b ≡ false → Looks ws p l.right n → d ≡ eqb l.color 0 && eqb n.color 0 → d ≡ true →
         Rises ws p p' (with_right l n.left) n (with_left x n.right) res → Steps ws p p' balance_room x res balance
-    left-right f N g k S = record {
+    left_right f N g k S = record {
       grown = S.grown;
       holds = λ {c} {a} {b} i ha hb.
           let o = L.sees ha in
@@ -99,8 +99,8 @@ module _ {ws p p' : List ℕ} {x : Node} {res : ℕ} (B : x.color ≡ 1) where
 
   module _ (Q : Calm ws p x.left) {r m : Node} (R : Looks ws p x.right r) (M : Looks ws p r.left m) {b : Bool}
       (e : b ≡ eqb r.color 0 && eqb m.color 0) where
-    pub right-left : b ≡ true → Rises ws p p' (with_right x m.left) m (with_left r m.right) res → Steps ws p p' balance_room x res balance
-    right-left f S = record {
+    pub right_left : b ≡ true → Rises ws p p' (with_right x m.left) m (with_left r m.right) res → Steps ws p p' balance_room x res balance
+    right_left f S = record {
       grown = S.grown;
       holds = λ {c} {a} {b} k ha hb.
           let o = R.sees hb in
@@ -110,8 +110,8 @@ module _ {ws p p' : List ℕ} {x : Node} {res : ℕ} (B : x.color ≡ 1) where
     }
 
     module _ {n : Node} {d : Bool} (f : b ≡ false) (N : Looks ws p r.right n) (g : d ≡ eqb r.color 0 && eqb n.color 0) where
-      pub right-right : d ≡ true → Rises ws p p' (with_right x r.left) r n res → Steps ws p p' balance_room x res balance
-      right-right k S = record {
+      pub right_right : d ≡ true → Rises ws p p' (with_right x r.left) r n res → Steps ws p p' balance_room x res balance
+      right_right k S = record {
         grown = S.grown;
         holds = λ {c} {a} {b} i ha hb.
             let o = R.sees hb in

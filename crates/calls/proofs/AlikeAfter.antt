@@ -17,7 +17,7 @@ use Rattle.calls.specs.Version.{VersionIs}
 use Rattle.calls.specs.Writing.{AllButSlot, HandsOutTree, GivenUp}
 use Rattle.calls.specs.Alike.{Alike}
 use Rattle.calls.proofs.Versions.{version_one, version_of, lowest_one}
-use Rattle.calls.proofs.OneSlot.{OneSlot, same_nodes, same-slots, held_before, carried, hands_out_one, released_one}
+use Rattle.calls.proofs.OneSlot.{OneSlot, same_nodes, same_slots, held_before, carried, hands_out_one, released_one}
 use Rattle.calls.proofs.Parts.{Part, version_part, kept_same}
 use Rattle.calls.proofs.Beside.{BothHold, Towards}
 use Rattle.calls.proofs.TwinCounts.{alike}
@@ -25,7 +25,7 @@ use Rattle.calls.proofs.TwinCounts.{alike}
 -- Two calls on ws that changed slot q alone, outside the nodes: what they have in common.
 module _ {q : ℕ} {ws w w' : List ℕ} (d : AllButSlot q ws w) (d' : AllButSlot q ws w') where
   both_slots : slots w' ≡ slots w
-  both_slots = same-slots d' ∙ sym (same-slots d)
+  both_slots = same_slots d' ∙ sym (same_slots d)
 
   both_header : (k : ℕ) → k < header_words → (k ≡ head_word → ⊥) → get_or w' k 0 ≡ get_or w k 0
   both_header k p f = d'.header k p f ∙ sym (d.header k p f)
@@ -36,7 +36,7 @@ module _ {q : ℕ} {ws w w' : List ℕ} (d : AllButSlot q ws w) (d' : AllButSlot
     where
       go : Dec (s ≡ q) → slot_size (nodes ws) w' s ≡ slot_size (nodes ws) w s
       go (yes z) = rw z e
-      go (no f) = let b : s < slots ws = omega (arith, same-slots d) in d'.sizes s b f ∙ sym (d.sizes s b f)
+      go (no f) = let b : s < slots ws = omega (arith, same_slots d) in d'.sizes s b f ∙ sym (d.sizes s b f)
 
 -- Slots other than q hold what they held in ws, in both.
 module _ {q q' : ℕ} {ws w w' : List ℕ} (S : Sound ws) (d : OneSlot q ws w) (d' : OneSlot q' ws w') where

@@ -15,7 +15,7 @@ use Rattle.calls.specs.Alike.{Twins, at_slot, at_left, at_right, Match, Alike}
 use Rattle.calls.proofs.Versions.{held_or_not}
 use Rattle.calls.proofs.Facing.{partner}
 use Rattle.calls.proofs.Beside.{SamePlace}
-use Rattle.calls.proofs.Unseen.{there, back, swapped, same_nodes, same-slots}
+use Rattle.calls.proofs.Unseen.{there, back, swapped, same_nodes, same_slots}
 
 -- Node j in both: the same count, and where it is live the same contents, its links but for renamed nodes.
 pub record SameNode (renamed : ℕ → Bool) (ws ws' : List ℕ) (j : ℕ) : Type 0 where
@@ -39,7 +39,7 @@ module _ {renamed : ℕ → Bool} {ws ws' : List ℕ} (A : Alike renamed ws ws')
       ⊎_elim
       (λ h. twin_place (at_slot s h))
       (λ e.
-      ⊎_elim (λ h. absurd (((A.held s).1 h).held e)) (λ e'. inl (e ∙ sym e')) (held_or_not ws' s (omega (arith, same-slots A))))
+      ⊎_elim (λ h. absurd (((A.held s).1 h).held e)) (λ e'. inl (e ∙ sym e')) (held_or_not ws' s (omega (arith, same_slots A))))
       (held_or_not ws s p)
 
   -- A node that is reached, and one that is not.

@@ -115,9 +115,9 @@ module _ {isNew : ℕ → Bool} {q : ℕ} {ws ws' : List ℕ} (T : Towards isNew
   twin_nodes t = beside_nodes (beside t)
 
   -- Two new nodes beside one node have its key, and both are in slot q.
-  new-one : {i j k : ℕ} → Twins ws ws' i j → Twins ws ws' i k → BothNodes isNew ws ws' i j → BothNodes isNew ws ws' i k → isNew j ≡ true →
+  new_one : {i j k : ℕ} → Twins ws ws' i j → Twins ws ws' i k → BothNodes isNew ws ws' i j → BothNodes isNew ws ws' i k → isNew j ≡ true →
       isNew k ≡ true → j ≡ k
-  new-one {i} {j} {k} t t' m m' y y' =
+  new_one {i} {j} {k} t t' m m' y y' =
       let b = beside t in
       let b' = beside t' in
       let a = at_node b m.some_node.1 in
@@ -138,9 +138,9 @@ module _ {isNew : ℕ → Bool} {q : ℕ} {ws ws' : List ℕ} (T : Towards isNew
     where
       go : BothNodes isNew ws ws' i j → BothNodes isNew ws ws' i k → SamePlace isNew i j → SamePlace isNew i k → j ≡ k
       go m m' (inl e) (inl f) = sym e ∙ f
-      go m m' (inl e) (inr f) = new-one t t' m m' (ap isNew (sym e) ∙ f.0) f.1
-      go m m' (inr e) (inl f) = new-one t t' m m' e.1 (ap isNew (sym f) ∙ e.0)
-      go m m' (inr e) (inr f) = new-one t t' m m' e.1 f.1
+      go m m' (inl e) (inr f) = new_one t t' m m' (ap isNew (sym e) ∙ f.0) f.1
+      go m m' (inr e) (inl f) = new_one t t' m m' e.1 (ap isNew (sym f) ∙ e.0)
+      go m m' (inr e) (inr f) = new_one t t' m m' e.1 f.1
 
   pub facing : Facing ws ws'
   facing =

@@ -15,15 +15,15 @@ use Rattle.words.specs.Fresh.{was_free}
 use Rattle.words.specs.Commit.{Built}
 use Rattle.words.proofs.Holding.{reads_link}
 use Rattle.words.proofs.Changes.{outside_nodes, outside_root}
-use Rattle.words.proofs.Slotting.{InSlot, slotting_in, slotting_root, slotting-size, slot_agree, slot_reads, put_owned}
+use Rattle.words.proofs.Slotting.{InSlot, slotting_in, slotting_root, slotting_size, slot_agree, slot_reads, put_owned}
 use Rattle.words.proofs.Committing.{Commits}
 use Rattle.words.proofs.OwnedSound.{owned_sound}
 use Rattle.calls.specs.Call.{Answer}
 use Rattle.calls.specs.Version.{VersionIs, Lowest}
 use Rattle.calls.specs.Writing.{AllButSlot, HandsOutTree}
 use Rattle.calls.proofs.Versions.{lowest_root}
-use Rattle.calls.proofs.OneSlot.{same_nodes, same-slots, in_slot_others, outside_others, others_trans}
-use Rattle.calls.proofs.Relabelling.{relabel-size, relabel_fine}
+use Rattle.calls.proofs.OneSlot.{same_nodes, same_slots, in_slot_others, outside_others, others_trans}
+use Rattle.calls.proofs.Relabelling.{relabel_size, relabel_fine}
 
 module _ {ws : List ℕ} {q z : ℕ} {u : Tree} {b : Built} (S : Sound ws) (low : Lowest ws q) (C : Commits Sized (nodes ws) (slots ws) [] ws u b)
     (fine : Fine u) (z-is : z ≡ size u) where
@@ -48,7 +48,7 @@ module _ {ws : List ℕ} {q z : ℕ} {u : Tree} {b : Built} (S : Sound ws) (low 
       let e : slot_root (nodes ws') ws' q ≡ b.link = ap (λ (m : ℕ). slot_root m ws' q) n_is ∙ slotting_root n b.words q b.link z inside in
       record {
         held = record {
-          inside = omega (arith, low.below, same-slots committed_others);
+          inside = omega (arith, low.below, same_slots committed_others);
           held = λ f.
               ⊎_elim
               (λ l. omega (arith, e, f, l))
@@ -61,7 +61,7 @@ module _ {ws : List ℕ} {q z : ℕ} {u : Tree} {b : Built} (S : Sound ws) (low 
   pub committed : HandsOutTree ws u (Answer.slot q) ws'
   committed =
       let e = outside_root n ws b.words C.grows.outside q ∙ lowest_root low in
-      let s : z ≡ size C.tree = z-is ∙ ap size (sym C.planned) ∙ relabel-size (was_free ws) C.tree in
+      let s : z ≡ size C.tree = z-is ∙ ap size (sym C.planned) ∙ relabel_size (was_free ws) C.tree in
       record {
         before = S;
         after = owned_sound n (slots ws) ws' (put_owned Sized n (slots ws) q b.words [] low.below b.link z C.tree C.owned e C.reads (relabel_fine (was_free ws) C.planned fine, s));
@@ -71,7 +71,7 @@ module _ {ws : List ℕ} {q z : ℕ} {u : Tree} {b : Built} (S : Sound ws) (low 
         tree = C.tree;
         version = committed_version;
         tree_is = C.planned;
-        size_is = slotting-size n b.words q b.link z inside ∙ z-is;
+        size_is = slotting_size n b.words q b.link z inside ∙ z-is;
         others = committed_others;
         live_kept = λ j l k p r. slot_agree n q b.words ws' put j l.0 l.1 k p r ∙ C.grows.agree j l k p r;
       }

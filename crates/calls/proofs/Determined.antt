@@ -11,7 +11,7 @@ use Rattle.trees.specs.Tree.{Entry, Tree, listing}
 use Rattle.trees.specs.Listing.{find}
 use Rattle.trees.specs.Edit.{Edit, edit}
 use Rattle.words.specs.Fresh.{was_free}
-use Rattle.words.proofs.FreeNumber.{same-free}
+use Rattle.words.proofs.FreeNumber.{same_free}
 use Rattle.calls.specs.Call.{Call, Answer}
 use Rattle.calls.specs.Effect.{effect}
 use Rattle.calls.specs.Table.{tests}
@@ -52,7 +52,7 @@ accepted_words Call.new ws a b w w' g h = root_words g h
 accepted_words (Call.hold s) ws a b w w' g h = root_words g.hands_out h.hands_out
 accepted_words (Call.release s) ws a b w w' g h = inr (released_alike g h)
 accepted_words (Call.size s) ws a b w w' g h = g.unchanged ∙ sym h.unchanged
-accepted_words Call.free-nodes ws a b w w' g h = g.unchanged ∙ sym h.unchanged
+accepted_words Call.free_nodes ws a b w w' g h = g.unchanged ∙ sym h.unchanged
 accepted_words (Call.get s k) ws a b w w' g h = g.unchanged ∙ sym h.unchanged
 accepted_words (Call.first s) ws a b w w' g h = g.unchanged ∙ sym h.unchanged
 accepted_words (Call.last s) ws a b w w' g h = g.unchanged ∙ sym h.unchanged
@@ -73,7 +73,7 @@ same_words (some f) e = inl e
 -- An arena sees itself.
 sees_itself : (ws : List ℕ) → Sees ws ws
 sees_itself ws =
-    record { long = refl; slots_is = refl; sound = λ S. S; held = λ s h. h; version = λ s t x. (t, x, refl); free = λ S S'. same-free ws S' S }
+    record { long = refl; slots_is = refl; sound = λ S. S; held = λ s h. h; version = λ s t x. (t, x, refl); free = λ S S'. same_free ws S' S }
 
 pub determined : {c : Call} {ws : List ℕ} {a b : Answer} {w w' : List ℕ} → Outcome c ws a w → Outcome c ws b w' →
     (a ≡ b) × SameBut (renamed_by (effect c) ws) w w'

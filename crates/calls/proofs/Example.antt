@@ -13,7 +13,7 @@ use Rattle.trees.specs.Listing.{find}
 use Rattle.trees.specs.Edit.{setting, edit}
 use Rattle.trees.specs.Insert.{ins, insert}
 use Rattle.trees.specs.Lookup.{get}
-use Rattle.trees.proofs.Lookups.{get-find}
+use Rattle.trees.proofs.Lookups.{get_find}
 use Rattle.words.specs.Layout.{nodes, slots}
 use Rattle.words.specs.Reads.{Held}
 use Rattle.words.specs.Sound.{Limits, Sound, free_number}
@@ -148,7 +148,7 @@ module _ (n v : ℕ) (old : List ℕ) (l : Limits n v (length old)) (three : 3 �
   found ws h =
       let K = history h in
       let x = model_held K 2 (e ∷ []) refl in
-      let g = get-find e.key x.tree (version_fine K.sound x.version).ordered ∙ ap (find e.key) x.listing_is in
+      let g = get_find e.key x.tree (version_fine K.sound x.version).ordered ∙ ap (find e.key) x.listing_is in
       let f : get e.key x.tree ≡ some e = g ∙ rw (eq-eqb e.key e.key refl) in
       subst (λ (a : Answer). Outcome (Call.get 2 e.key) ws a ws) (ap (or_refused Refusal.absent value_of) f) (get_outcome K.sound x.version e.key)
 

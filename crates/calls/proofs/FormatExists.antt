@@ -144,9 +144,9 @@ module _ (n v : ℕ) (ws : List ℕ) where
   unfolding slot_root slot_size
   format_not_held s h = (slot_word s 0 h (omega arith), slot_word s 1 h (omega arith))
 
-  first-free : 1 ≤ n → next_free 1 n ≡ 1
+  first_free : 1 ≤ n → next_free 1 n ≡ 1
   unfolding next_free
-  first-free h = go n h
+  first_free h = go n h
     where
       go : (m : ℕ) → 1 ≤ m → next_free 1 m ≡ 1
       go zero h = absurd (omega arith)
@@ -162,7 +162,7 @@ module _ (n v : ℕ) (ws : List ℕ) where
         n_is = refl;
         v_is = refl;
         spares = format_spares;
-        free-listed = rw (first-free l.n_low) at (chain_run n 0 (omega arith));
+        free_listed = rw (first_free l.n_low) at (chain_run n 0 (omega arith));
         counts = format_count;
         kept = format_kept;
         unheld = format_not_held;

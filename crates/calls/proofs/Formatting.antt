@@ -67,7 +67,7 @@ module _ {n v : ℕ} {ws : List ℕ} {a : Answer} {ws' : List ℕ} (f : Formatte
         counts = no_names;
         pending = λ p h. absurd (omega arith);
         free = run 1 n;
-        chain = f.free-listed;
+        chain = f.free_listed;
         frees = λ i p q. occ-run i 1 n p (omega arith) ∙ sym (idle_zero (count ws' i) (f.counts i p q));
         versions = λ s p. inl (f.unheld s p);
       }

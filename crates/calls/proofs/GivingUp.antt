@@ -10,7 +10,7 @@ use Rattle.words.specs.Sound.{Sound}
 use Rattle.words.specs.Owned.{Sized}
 use Rattle.words.specs.Model.{releasing, freed, unslotting}
 use Rattle.words.proofs.Changes.{outside_root, outside_size}
-use Rattle.words.proofs.Slotting.{InSlot, slotting_in, slotting_root, slotting-size, slot_count, slot_agree, slot_reads, take_owned}
+use Rattle.words.proofs.Slotting.{InSlot, slotting_in, slotting_root, slotting_size, slot_count, slot_agree, slot_reads, take_owned}
 use Rattle.words.proofs.Releasing as releasing
 use Rattle.words.proofs.SoundOwned.{sound_owned}
 use Rattle.words.proofs.OwnedSound.{owned_sound}
@@ -63,7 +63,7 @@ module _ {ws : List ℕ} {s : ℕ} {t : Tree} (S : Sound ws) (x : VersionIs ws s
         held = x.held;
         answer = refl;
         root_is = outside_root n given_up left gone.outside s ∙ slotting_root n ws s not_held 0 inside;
-        size_is = outside_size n given_up left gone.outside s ∙ slotting-size n ws s not_held 0 inside;
+        size_is = outside_size n given_up left gone.outside s ∙ slotting_size n ws s not_held 0 inside;
         others = others_trans (in_slot_others take) (outside_others (rw (same_nodes (in_slot_others take)) gone.outside));
         live_kept = λ j l.
             let k = gone.kept j l in (

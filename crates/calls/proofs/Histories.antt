@@ -62,7 +62,7 @@ module _ (r : Refusal) where
   accepted_no (Call.hold s) ws ws' g = slot_no g.hands_out.out g.hands_out.answer
   accepted_no (Call.release s) ws ws' g = let e = g.answer in let z : ◌≡◌ {A = ℕ} 0 1 = cc in omega arith
   accepted_no (Call.size s) ws ws' g = let e = g.answer in let z : ◌≡◌ {A = ℕ} 0 1 = cc in omega arith
-  accepted_no Call.free-nodes ws ws' g = let e = g.answer in let z : ◌≡◌ {A = ℕ} 0 1 = cc in omega arith
+  accepted_no Call.free_nodes ws ws' g = let e = g.answer in let z : ◌≡◌ {A = ℕ} 0 1 = cc in omega arith
   accepted_no (Call.get s k) ws ws' g = found_no value_of value_no (find k (listing g.tree)) g.answer
   accepted_no (Call.first s) ws ws' g = found_no Answer.entry entry_no (first_of (listing g.tree)) g.answer
   accepted_no (Call.last s) ws ws' g = found_no Answer.entry entry_no (last_of (listing g.tree)) g.answer

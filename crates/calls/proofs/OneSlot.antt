@@ -31,20 +31,20 @@ module _ {q : ℕ} {ws ws' : List ℕ} (d : AllButSlot q ws ws') where
   unfolding nodes
   same_nodes = d.header 0 (omega arith) (λ e. omega arith)
 
-  pub same-slots : slots ws' ≡ slots ws
+  pub same_slots : slots ws' ≡ slots ws
   unfolding slots
-  same-slots = d.header 1 (omega arith) (λ e. omega arith)
+  same_slots = d.header 1 (omega arith) (λ e. omega arith)
 
   pub other_root : (s : ℕ) → s < slots ws → (s ≡ q → ⊥) → slot_root (nodes ws') ws' s ≡ slot_root (nodes ws) ws s
   other_root s p f = ap (λ (n : ℕ). slot_root n ws' s) same_nodes ∙ d.roots s p f
 
   pub held_before : (s : ℕ) → (s ≡ q → ⊥) → Held ws' s → Held ws s
   held_before s f h =
-      let p : s < slots ws = omega (arith, same-slots, h.inside) in
+      let p : s < slots ws = omega (arith, same_slots, h.inside) in
       record { inside = p; held = λ e. h.held (other_root s p f ∙ e) }
 
   pub held_after : (s : ℕ) → (s ≡ q → ⊥) → Held ws s → Held ws' s
-  held_after s f h = record { inside = omega (arith, same-slots, h.inside); held = λ e. h.held (sym (other_root s h.inside f) ∙ e) }
+  held_after s f h = record { inside = omega (arith, same_slots, h.inside); held = λ e. h.held (sym (other_root s h.inside f) ∙ e) }
 
 -- A change of slot q alone, a change of nodes and the head alone, and one after the other.
 pub in_slot_others : {q : ℕ} {ws ws' : List ℕ} → InSlot (nodes ws) q ws ws' → AllButSlot q ws ws'
@@ -68,7 +68,7 @@ outside_others {ws = ws} {ws' = ws'} d =
 pub others_trans : {q : ℕ} {a b c : List ℕ} → AllButSlot q a b → AllButSlot q b c → AllButSlot q a c
 others_trans {a = a} {b = b} {c = c} x y =
     let n = same_nodes x in
-    let inside : (s : ℕ) → s < slots a → s < slots b = λ s p. omega (arith, same-slots x) in
+    let inside : (s : ℕ) → s < slots a → s < slots b = λ s p. omega (arith, same_slots x) in
     record {
       long = y.long ∙ x.long;
       header = λ k p f. y.header k p f ∙ x.header k p f;

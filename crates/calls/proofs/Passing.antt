@@ -16,7 +16,7 @@ use Rattle.words.specs.Counting.{occ}
 use Rattle.words.specs.Reads.{Held}
 use Rattle.words.specs.Sound.{Sound, free_number}
 use Rattle.words.proofs.Counts.{same_ne}
-use Rattle.words.proofs.FreeNumber.{same-free}
+use Rattle.words.proofs.FreeNumber.{same_free}
 use Rattle.calls.specs.Refusal.{Refusal}
 use Rattle.calls.specs.Call.{Walk, Call, Answer}
 use Rattle.calls.specs.Table.{slots_of, tests}
@@ -35,19 +35,19 @@ module _ {ws : List ℕ} where
   unfolding occ
   none_held x h = absurd (omega arith)
 
-  next-held : {s : ℕ} (xs : List ℕ) → Held ws s → AllHeld ws xs → AllHeld ws (s ∷ xs)
+  next_held : {s : ℕ} (xs : List ℕ) → Held ws s → AllHeld ws xs → AllHeld ws (s ∷ xs)
   unfolding occ
-  next-held {s} xs h f x o = go (ℕ_discrete s x)
+  next_held {s} xs h f x o = go (ℕ_discrete s x)
     where
       go : Dec (s ≡ x) → Held ws x
       go (yes e) = subst (Held ws) e h
       go (no d) = f x (omega (arith, same_ne s x d))
 
-  pub one-held : {s : ℕ} → Held ws s → AllHeld ws (s ∷ [])
-  one-held h = next-held [] h none_held
+  pub one_held : {s : ℕ} → Held ws s → AllHeld ws (s ∷ [])
+  one_held h = next_held [] h none_held
 
   pub two_held : {s t : ℕ} → Held ws s → Held ws t → AllHeld ws (s ∷ (t ∷ []))
-  two_held {t = t} h k = next-held (t ∷ []) h (one-held k)
+  two_held {t = t} h k = next_held (t ∷ []) h (one_held k)
 
   pub not_unsound : {c : Call} → Sound ws → Given ws Refusal.unsound c → ⊥
   not_unsound S (Given.unsound f) = f S
@@ -65,7 +65,7 @@ module _ {ws : List ℕ} {s : ℕ} {t : Tree} (S : Sound ws) (x : VersionIs ws s
   pub not_insert_room : {e : Entry} → insert_reserve (size t) ≤ free_number S → Given ws Refusal.no_room (Call.insert s e) → ⊥
   not_insert_room h (Given.insert_room {t = u} Q y l) =
       let z = version_one y x in
-      omega (arith, same-free ws S Q, subst (λ (v : Tree). free_number Q < insert_reserve (size v)) z l)
+      omega (arith, same_free ws S Q, subst (λ (v : Tree). free_number Q < insert_reserve (size v)) z l)
 
   pub not_remove_room : {k : ℕ} → ((e : Entry) → find k (listing t) ≡ some e → remove_reserve (size t) ≤ free_number S) →
       Given ws Refusal.no_room (Call.remove s k) → ⊥
@@ -74,7 +74,7 @@ module _ {ws : List ℕ} {s : ℕ} {t : Tree} (S : Sound ws) (x : VersionIs ws s
       omega (
         arith,
         h e (subst (λ (v : Tree). find k (listing v) ≡ some e) z f),
-        same-free ws S Q,
+        same_free ws S Q,
         subst (λ (v : Tree). free_number Q < remove_reserve (size v)) z l,
       )
 

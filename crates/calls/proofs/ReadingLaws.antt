@@ -35,7 +35,7 @@ accepted_still Call.new ws a ws' e g = absurd (let z : ◌≡◌ {A = ℕ} 0 1 =
 accepted_still (Call.hold s) ws a ws' e g = absurd (let z : ◌≡◌ {A = ℕ} 0 1 = cc in omega arith)
 accepted_still (Call.release s) ws a ws' e g = absurd (let z : ◌≡◌ {A = ℕ} 0 1 = cc in omega arith)
 accepted_still (Call.size s) ws a ws' e g = g.unchanged
-accepted_still Call.free-nodes ws a ws' e g = g.unchanged
+accepted_still Call.free_nodes ws a ws' e g = g.unchanged
 accepted_still (Call.get s k) ws a ws' e g = g.unchanged
 accepted_still (Call.first s) ws a ws' e g = g.unchanged
 accepted_still (Call.last s) ws a ws' e g = g.unchanged

@@ -11,7 +11,7 @@ use Rattle.trees.specs.Range.{End, next, is_bad_range}
 use Rattle.trees.specs.Order
 use Rattle.trees.specs.Difference.{next_difference}
 use Rattle.trees.specs.Lookup.{get, first, last, step}
-use Rattle.trees.proofs.Lookups.{size-listing, get-find, first_end, last_end}
+use Rattle.trees.proofs.Lookups.{size-listing, get_find, first_end, last_end}
 use Rattle.trees.proofs.Ranges.{step-next}
 use Rattle.words.specs.Layout.{nodes, slot_size}
 use Rattle.words.specs.Sound.{Sound, free_number}
@@ -24,8 +24,8 @@ use Rattle.calls.specs.Reading.{Tells, TellsBoth, answer_by, or_refused, value_o
 use Rattle.calls.specs.Outcome.{Accepted, Outcome}
 use Rattle.calls.proofs.Versions.{version_fine, version_size}
 use Rattle.calls.proofs.Decisions.{First, refused_outcome, accepted_outcome}
-use Rattle.calls.proofs.Passing.{one-held, two_held, not_bad_range, past_version}
-use Rattle.calls.proofs.NoneGiven.{NoneGiven, free-nodes_passed, soundness_test_passed, size_passed, rescale_mark_passed, get_passed, first_passed, last_passed, step_passed, compare_passed, equal_passed, difference_passed}
+use Rattle.calls.proofs.Passing.{one_held, two_held, not_bad_range, past_version}
+use Rattle.calls.proofs.NoneGiven.{NoneGiven, free_nodes_passed, soundness_test_passed, size_passed, rescale_mark_passed, get_passed, first_passed, last_passed, step_passed, compare_passed, equal_passed, difference_passed}
 
 -- A call that looks for something, and refuses with r where there is nothing.
 found_or_refused : {A : Type 0} {ws : List ℕ} (c : Call) (r : Refusal) (f : A → Answer) (o : Option A) → (o ≡ none → First ws c r (tests c)) →
@@ -33,14 +33,14 @@ found_or_refused : {A : Type 0} {ws : List ℕ} (c : Call) (r : Refusal) (f : A 
 found_or_refused c r f none missing passed accepts = refused_outcome (missing refl)
 found_or_refused {ws = ws} c r f (some e) missing passed accepts = accepted_outcome c ws (f e) ws (passed e refl) (accepts e refl)
 
-pub free-nodes_outcome : {ws : List ℕ} (S : Sound ws) → Outcome Call.free-nodes ws (Answer.number (free_number S)) ws
-free-nodes_outcome {ws} S =
+pub free_nodes_outcome : {ws : List ℕ} (S : Sound ws) → Outcome Call.free_nodes ws (Answer.number (free_number S)) ws
+free_nodes_outcome {ws} S =
     accepted_outcome
-    Call.free-nodes
+    Call.free_nodes
     ws
     (Answer.number (free_number S))
     ws
-    (free-nodes_passed S)
+    (free_nodes_passed S)
     (record { before = S; answer = refl; unchanged = refl })
 
 -- "The soundness test answers yes exactly when the arena is sound, otherwise no, and writes nothing."
@@ -101,11 +101,11 @@ module _ {ws : List ℕ} {s : ℕ} {t : Tree} (S : Sound ws) (x : VersionIs ws s
       Refusal.absent
       value_of
       (find k)
-      (λ n. past_version refl S (one-held x.held) (First.here (Given.no_key x n)))
+      (λ n. past_version refl S (one_held x.held) (First.here (Given.no_key x n)))
       (λ e f. get_passed S x k f)
       (λ a g. g)
       (get k t)
-      (sym (get-find k t (version_fine S x).ordered))
+      (sym (get_find k t (version_fine S x).ordered))
 
   pub first_outcome : Outcome (Call.first s) ws (or_refused Refusal.absent Answer.entry (first t)) ws
   first_outcome =
@@ -114,7 +114,7 @@ module _ {ws : List ℕ} {s : ℕ} {t : Tree} (S : Sound ws) (x : VersionIs ws s
       Refusal.absent
       Answer.entry
       first_of
-      (λ n. past_version refl S (one-held x.held) (First.here (Given.no_first x n)))
+      (λ n. past_version refl S (one_held x.held) (First.here (Given.no_first x n)))
       (first_passed S x)
       (λ a g. g)
       (first t)
@@ -127,7 +127,7 @@ module _ {ws : List ℕ} {s : ℕ} {t : Tree} (S : Sound ws) (x : VersionIs ws s
       Refusal.absent
       Answer.entry
       last_of
-      (λ n. past_version refl S (one-held x.held) (First.here (Given.no_last x n)))
+      (λ n. past_version refl S (one_held x.held) (First.here (Given.no_last x n)))
       (last_passed S x)
       (λ a g. g)
       (last t)
@@ -135,7 +135,7 @@ module _ {ws : List ℕ} {s : ℕ} {t : Tree} (S : Sound ws) (x : VersionIs ws s
 
 module _ {ws : List ℕ} {w : Walk} {t : Tree} (S : Sound ws) (x : VersionIs ws w.slot t) (d : End) where
   pub bad_range_outcome : is_bad_range w.range.start w.range.end ≡ true → Outcome (Call.step d w) ws (Answer.refused Refusal.bad_range) ws
-  bad_range_outcome h = refused_outcome (past_version refl S (one-held x.held) (First.here (Given.bad_range h)))
+  bad_range_outcome h = refused_outcome (past_version refl S (one_held x.held) (First.here (Given.bad_range h)))
 
   stepped_to : is_bad_range w.range.start w.range.end ≡ false → (o : Option Entry) → next d w.range (listing t) ≡ o →
       Outcome (Call.step d w) ws (or_refused Refusal.ended Answer.entry o) ws
@@ -147,7 +147,7 @@ module _ {ws : List ℕ} {w : Walk} {t : Tree} (S : Sound ws) (x : VersionIs ws 
       Refusal.ended
       Answer.entry
       (next d w.range)
-      (λ n. past_version refl S (one-held x.held) (First.later (not_bad_range h) (First.here (Given.ended x n))))
+      (λ n. past_version refl S (one_held x.held) (First.later (not_bad_range h) (First.here (Given.ended x n))))
       (step_passed S x d h)
       (λ a g. g)
 

@@ -13,7 +13,7 @@ use Rattle.trees.specs.Lookup.{has, path}
 use Rattle.trees.specs.Insert.{insert}
 use Rattle.trees.specs.Remove.{remove}
 use Rattle.trees.specs.Edit.{setting}
-use Rattle.trees.proofs.Lookups.{has-find}
+use Rattle.trees.proofs.Lookups.{has_find}
 use Rattle.trees.proofs.InsertMade.{made-insert}
 use Rattle.trees.proofs.Reserves.{reserve_insert, reserve_remove}
 use Rattle.words.specs.Layout.{nodes, slot_root}
@@ -42,7 +42,7 @@ module _ {ws : List ℕ} {s : ℕ} {t : Tree} (S : Sound ws) (x : VersionIs ws s
 
   pub remove_fits : (k : ℕ) {e : Entry} → find k (listing t) ≡ some e → remove_reserve (size t) ≤ free_number S → made (remove k t) ≤ idles (nodes ws) ws
   remove_fits k f h =
-      let i : has k t ≡ true = has-find k t (version_fine S x).ordered ∙ ap is_some f in
+      let i : has k t ≡ true = has_find k t (version_fine S x).ordered ∙ ap is_some f in
       omega (arith, reserve_remove t (version_fine S x) all_kept small k i, sound_idles ws S)
 
   -- "Insert thus takes as many nodes as its search path has, one more for a new key."

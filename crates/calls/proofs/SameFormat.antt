@@ -35,14 +35,14 @@ module _ {n v : ℕ} {ws w w' : List ℕ} {a b : Answer} (f : Formatted n v ws a
   unfolding nodes slots head
   header_word zero p = g.n_is ∙ sym f.n_is
   header_word (suc zero) p = g.v_is ∙ sym f.v_is
-  header_word (suc (suc zero)) p = chain_start n w w' (head w) (head w') 1 n f.free-listed g.free-listed
+  header_word (suc (suc zero)) p = chain_start n w w' (head w) (head w') 1 n f.free_listed g.free_listed
   header_word (suc (suc (suc k))) p =
       g.spares (suc (suc (suc k))) (omega arith) p ∙ sym (f.spares (suc (suc (suc k))) (omega arith) p)
 
   node_word : (i k : ℕ) → 1 ≤ i → i ≤ n → key_word ≤ k → k ≤ count_word → Dec (k ≡ left_word) → Dec (k ≡ count_word) →
       get_or w' (node_words * i + k) 0 ≡ get_or w (node_words * i + k) 0
   unfolding left count
-  node_word i k p q l h (yes e) d = rw e (chain_links n w w' (head w) (head w') 1 n i f.free-listed g.free-listed p (omega arith))
+  node_word i k p q l h (yes e) d = rw e (chain_links n w w' (head w) (head w') 1 n i f.free_listed g.free_listed p (omega arith))
   node_word i k p q l h (no e) (yes d) = rw d (g.counts i p q ∙ sym (f.counts i p q))
   node_word i k p q l h (no e) (no d) = g.kept i k p q l (omega arith) e ∙ sym (f.kept i k p q l (omega arith) e)
 

@@ -114,7 +114,7 @@ module _ {ws ws' : List ℕ} (B : Sees ws ws') (B' : Sees ws' ws) where
   accepted_same (Call.hold s) a b w w' g h = slots_same g.hands_out.lowest h.hands_out.lowest g.hands_out.answer h.hands_out.answer
   accepted_same (Call.release s) a b w w' g h = g.answer ∙ sym h.answer
   accepted_same (Call.size s) a b w w' g h = tells_same g h
-  accepted_same Call.free-nodes a b w w' g h = g.answer ∙ ap Answer.number (sym (B.free g.before h.before)) ∙ sym h.answer
+  accepted_same Call.free_nodes a b w w' g h = g.answer ∙ ap Answer.number (sym (B.free g.before h.before)) ∙ sym h.answer
   accepted_same (Call.get s k) a b w w' g h = tells_same g h
   accepted_same (Call.first s) a b w w' g h = tells_same g h
   accepted_same (Call.last s) a b w w' g h = tells_same g h

@@ -14,7 +14,7 @@ use Rattle.words.specs.Owned.{Live, Owned, Sized, Agree, idles}
 use Rattle.words.specs.Model.{raising, slotting}
 use Rattle.words.proofs.Holding.{frame_all}
 use Rattle.words.proofs.Changes.{Outside, outside_nodes, outside_root}
-use Rattle.words.proofs.Recounting.{owned_long, raising_owned, raising-idles, raising_outside, raising_agree}
+use Rattle.words.proofs.Recounting.{owned_long, raising_owned, raising_idles, raising_outside, raising_agree}
 use Rattle.words.proofs.Slotting.{InSlot, slotting_in, slotting_root, slot_agree, slot_idles, put_owned}
 use Rattle.words.proofs.SoundOwned.{sound_owned}
 use Rattle.words.proofs.OwnedSound.{owned_sound}
@@ -22,7 +22,7 @@ use Rattle.words.proofs.FreeNumber.{sound_idles}
 use Rattle.calls.specs.Version.{VersionIs, Lowest}
 use Rattle.calls.specs.Writing.{AllButSlot}
 use Rattle.calls.proofs.Versions.{version_fine, version_size, version_root, version_link, lowest_root}
-use Rattle.calls.proofs.OneSlot.{OneSlot, same_nodes, same-slots, in_slot_others, outside_others, others_trans}
+use Rattle.calls.proofs.OneSlot.{OneSlot, same_nodes, same_slots, in_slot_others, outside_others, others_trans}
 
 -- A root of a sound arena that a slot may hold: none, or a live node, with a fine tree and its size.
 pub record Root (ws : List ℕ) (r z : ℕ) (t : Tree) : Type 0 where
@@ -93,7 +93,7 @@ module _ (ws : List ℕ) (r z q : ℕ) (t : Tree) (S : Sound ws) (low : Lowest w
       let e : slot_root (nodes shared) shared q ≡ r = ap (λ (m : ℕ). slot_root m shared q) n_is ∙ slotting_root n raised q r z b in
       record {
         held = record {
-          inside = omega (arith, low.below, same-slots shared_others);
+          inside = omega (arith, low.below, same_slots shared_others);
           held = λ f. omega (arith, e, f, R.low, S.trees.limits.n_high);
         };
         reads = rw (e, n_is) (frame_all n ws shared shared_agree r t R.reads);
@@ -103,4 +103,4 @@ module _ (ws : List ℕ) (r z q : ℕ) (t : Tree) (S : Sound ws) (low : Lowest w
   pub shared_free : (S' : Sound shared) → free_number S' ≡ free_number S
   shared_free S' =
       sound_idles shared S' ∙ ap (λ (m : ℕ). idles m shared) (same_nodes shared_others) ∙ slot_idles n q raised shared in_slot ∙
-      raising-idles n ws long r R.live ∙ sym (sound_idles ws S)
+      raising_idles n ws long r R.live ∙ sym (sound_idles ws S)

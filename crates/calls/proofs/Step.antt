@@ -17,7 +17,7 @@ use Rattle.trees.specs.Difference.{next_difference}
 use Rattle.trees.proofs.Edits.{listing-edit}
 use Rattle.words.specs.Layout.{slot_root}
 use Rattle.words.specs.Sound.{Sound}
-use Rattle.words.proofs.FreeNumber.{free-number}
+use Rattle.words.proofs.FreeNumber.{free_number_is}
 use Rattle.calls.specs.Call.{Call, Answer}
 use Rattle.calls.specs.Table.{tests}
 use Rattle.calls.specs.Effect.{effect}
@@ -28,10 +28,10 @@ use Rattle.calls.specs.Writing.{Formatted, HandsOutRoot, HandsOutAgain, Edited, 
 use Rattle.calls.specs.Outcome.{Accepted, Outcome}
 use Rattle.calls.specs.History.{Model, no_versions, with_slot, edited_at, handed, after, Lists, SlotAs, Keeps}
 use Rattle.calls.proofs.Versions.{version_one, version_of, version_fine, version_low}
-use Rattle.calls.proofs.OneSlot.{OneSlot, same_nodes, same-slots, held_before, carried, hands_out_one, released_one}
+use Rattle.calls.proofs.OneSlot.{OneSlot, same_nodes, same_slots, held_before, carried, hands_out_one, released_one}
 use Rattle.calls.proofs.Sharing.{Root, no_root, version_is_root, shared_one, shared_version}
 use Rattle.calls.proofs.Formatting.{format_sound, format_not_held}
-use Rattle.calls.proofs.Relabelling.{relabel-listing}
+use Rattle.calls.proofs.Relabelling.{relabel_listing}
 use Rattle.calls.proofs.Decisions.{Either, either}
 
 pub lists_version : {ws : List ℕ} {s : ℕ} {t : Tree} → Sound ws → VersionIs ws s t → Lists ws s (listing t)
@@ -48,9 +48,9 @@ module _ {q : ℕ} {ws ws' : List ℕ} (d : OneSlot q ws ws') {m : Model} (K : K
       record {
         sound = d.sound;
         n_is = same_nodes d.others ∙ K.n_is;
-        v_is = same-slots d.others ∙ K.v_is;
+        v_is = same_slots d.others ∙ K.v_is;
         slot_as = λ s. go s (eqb s q) refl;
-        free_is = λ S xs r. free-number ws' S xs r ∙ same_nodes d.others ∙ K.n_is;
+        free_is = λ S xs r. free_number_is ws' S xs r ∙ same_nodes d.others ∙ K.n_is;
       }
     where
       go : (s : ℕ) (b : Bool) → eqb s q ≡ b → SlotAs ws' s (if b then x else m.lists s)
@@ -100,7 +100,7 @@ module _ {ws ws' : List ℕ} {m : Model} {a : Answer} (K : Keeps ws m) where
   edited_keeps c {s} {d} e g =
       let o = g.hands_out in
       let l : listing o.tree ≡ edited d (listing g.parent) =
-      sym (relabel-listing (was_free ws) o.tree) ∙ ap listing o.tree_is ∙
+      sym (relabel_listing (was_free ws) o.tree) ∙ ap listing o.tree_is ∙
       listing-edit d g.parent (version_fine o.before g.version).ordered in
       rw
       o.answer
@@ -136,7 +136,7 @@ formatted_keeps {ws' = ws'} f =
       n_is = f.n_is;
       v_is = f.v_is;
       slot_as = λ s h. format_not_held f s h;
-      free_is = λ S xs r. free-number ws' S xs r ∙ f.n_is;
+      free_is = λ S xs r. free_number_is ws' S xs r ∙ f.n_is;
     }
 
 accepted_keeps : (c : Call) (ws ws' : List ℕ) (m : Model) (a : Answer) → Keeps ws m → Accepted c ws a ws' → Keeps ws' (after c a m)
@@ -148,7 +148,7 @@ accepted_keeps (Call.hold s) ws ws' m a K g =
 accepted_keeps (Call.release s) ws ws' m a K g =
     rw g.answer (slot_keeps (released_one g) K none λ h. h.held (ap (λ (n : ℕ). slot_root n ws' s) (same_nodes g.others) ∙ g.root_is))
 accepted_keeps (Call.size s) ws ws' m a K g = told_keeps K (Call.size s) _ refl g.answer g.unchanged
-accepted_keeps Call.free-nodes ws ws' m a K g = still K Call.free-nodes _ refl g.answer g.unchanged
+accepted_keeps Call.free_nodes ws ws' m a K g = still K Call.free_nodes _ refl g.answer g.unchanged
 accepted_keeps (Call.get s k) ws ws' m a K g = found_keeps K (Call.get s k) value_of (λ e. refl) (find k (listing g.tree)) g.answer g.unchanged
 accepted_keeps (Call.first s) ws ws' m a K g = found_keeps K (Call.first s) Answer.entry (λ e. refl) (first_of (listing g.tree)) g.answer g.unchanged
 accepted_keeps (Call.last s) ws ws' m a K g = found_keeps K (Call.last s) Answer.entry (λ e. refl) (last_of (listing g.tree)) g.answer g.unchanged

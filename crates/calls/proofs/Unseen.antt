@@ -10,7 +10,7 @@ use Rattle.trees.specs.Tree.{Tree, leaf, node, listing}
 use Rattle.words.specs.Layout.{nodes, slots}
 use Rattle.words.specs.Reads.{Reads}
 use Rattle.words.specs.Sound.{Sound, free_number}
-use Rattle.words.proofs.FreeNumber.{free_reached, same-free}
+use Rattle.words.proofs.FreeNumber.{free_reached, same_free}
 use Rattle.calls.specs.Call.{Call, Answer}
 use Rattle.calls.specs.Outcome.{Outcome}
 use Rattle.calls.specs.Alike.{Twins, at_slot, at_left, at_right, Match, Alike}
@@ -46,9 +46,9 @@ module _ {renamed : ℕ → Bool} {ws ws' : List ℕ} (A : Alike renamed ws ws')
   unfolding nodes
   same_nodes = A.header 0 (omega arith) (λ e. omega arith)
 
-  pub same-slots : slots ws' ≡ slots ws
+  pub same_slots : slots ws' ≡ slots ws
   unfolding slots
-  same-slots = A.header 1 (omega arith) (λ e. omega arith)
+  same_slots = A.header 1 (omega arith) (λ e. omega arith)
 
   twin_listing : (t t' : Tree) {i j : ℕ} → Twins ws ws' i j → Reads (nodes ws) ws i t → Reads (nodes ws') ws' j t' → listing t' ≡ listing t
   twin_listing leaf leaf w r r' = refl
@@ -77,8 +77,8 @@ module _ {renamed : ℕ → Bool} {ws ws' : List ℕ} (A : Alike renamed ws ws')
   alike_free S S' =
       omega (
         arith,
-        same-free ws S A.sound,
-        same-free ws' S' A.sound',
+        same_free ws S A.sound,
+        same_free ws' S' A.sound',
         free_reached ws A.sound,
         free_reached ws' A.sound',
         same_number,
@@ -89,7 +89,7 @@ module _ {renamed : ℕ → Bool} {ws ws' : List ℕ} (A : Alike renamed ws ws')
   sees =
       record {
         long = A.long;
-        slots_is = same-slots;
+        slots_is = same_slots;
         sound = λ S. A.sound';
         held = λ s. (A.held s).0;
         version = λ s t x.
@@ -102,7 +102,7 @@ module _ {renamed : ℕ → Bool} {ws ws' : List ℕ} (A : Alike renamed ws ws')
   seen =
       record {
         long = sym A.long;
-        slots_is = sym same-slots;
+        slots_is = sym same_slots;
         sound = λ S. A.sound;
         held = λ s. (A.held s).1;
         version = λ s t x.

@@ -82,15 +82,15 @@ module _ (p p' : Entry → Bool) (e : Entry) where
 -- What the caller keeps after a step that gave e lets through what is past e, as before, and
 -- nothing up to e.
 module _ (w : Range) (e : Entry) (passes : remains w e ≡ true) where
-  after-e : after_front w e.key ≡ true
-  after-e = ((and-eq-true_iff (after_front w e.key) (before_back w e.key)).0 passes).0
+  after_e : after_front w e.key ≡ true
+  after_e = ((and-eq-true_iff (after_front w e.key) (before_back w e.key)).0 passes).0
 
   before_e : before_back w e.key ≡ true
   before_e = ((and-eq-true_iff (after_front w e.key) (before_back w e.key)).0 passes).1
 
   front_past : (y : Entry) → e.key < y.key → remains (stepped front w e) y ≡ remains w y
   front_past y l =
-      let a = after_front_up w e.key y.key (omega arith) after-e in
+      let a = after_front_up w e.key y.key (omega arith) after_e in
       let s = (and-eq-true_iff (from_start w.start y.key) (from_start (past w.given_front) y.key)).0 a in
       rw (s.0, s.1, lt-ltb e.key y.key l)
 

@@ -28,7 +28,7 @@ use Rattle.calls.proofs.Versions.{version_fine}
 use Rattle.calls.proofs.Decisions.{First, refused_outcome, accepted_outcome}
 use Rattle.calls.proofs.Committed.{committed}
 use Rattle.calls.proofs.GivingUp.{released}
-use Rattle.calls.proofs.Passing.{one-held, not_unsound, not_no_slot, past_version}
+use Rattle.calls.proofs.Passing.{one_held, not_unsound, not_no_slot, past_version}
 use Rattle.calls.proofs.NoneGiven.{format_passed, new_passed, hold_passed, release_passed, insert_passed, remove_passed}
 
 -- Format, by what it leaves.
@@ -57,7 +57,7 @@ module _ {ws : List ℕ} (S : Sound ws) (full : (s : ℕ) → s < slots ws → H
 
   pub slots_full : {c : Call} {rs : List Refusal} {s : ℕ} → tests c ≡ Refusal.unsound ∷ (Refusal.no_version ∷ (Refusal.no_slot ∷ rs)) →
       slots_of c ≡ s ∷ [] → Held ws s → Outcome c ws (Answer.refused Refusal.no_slot) ws
-  slots_full starts names h = refused_outcome (past_version starts S (rw names (one-held h)) (First.here (Given.no_slot full)))
+  slots_full starts names h = refused_outcome (past_version starts S (rw names (one_held h)) (First.here (Given.no_slot full)))
 
 -- There is a slot to hand out.
 module _ {ws : List ℕ} {q : ℕ} (S : Sound ws) (low : Lowest ws q) where
@@ -92,12 +92,12 @@ module _ {ws : List ℕ} {q : ℕ} (S : Sound ws) (low : Lowest ws q) where
     -- "fewer free nodes than the reserve"
     pub insert_full : (e : Entry) → free_number S < insert_reserve (size t) → Outcome (Call.insert s e) ws (Answer.refused Refusal.no_room) ws
     insert_full e h =
-        refused_outcome (past_version refl S (one-held x.held) (First.later (not_no_slot low) (First.here (Given.insert_room S x h))))
+        refused_outcome (past_version refl S (one_held x.held) (First.later (not_no_slot low) (First.here (Given.insert_room S x h))))
 
     pub remove_full : (k : ℕ) {e : Entry} → find k (listing t) ≡ some e → free_number S < remove_reserve (size t) →
         Outcome (Call.remove s k) ws (Answer.refused Refusal.no_room) ws
     remove_full k f h =
-        refused_outcome (past_version refl S (one-held x.held) (First.later (not_no_slot low) (First.here (Given.remove_room S x f h))))
+        refused_outcome (past_version refl S (one_held x.held) (First.later (not_no_slot low) (First.here (Given.remove_room S x f h))))
 
     -- The planned tree is put into the arena and into the slot, with its size z.
     module _ (z : ℕ) (b : Built) where

@@ -24,7 +24,7 @@ pub data Call : Type 0 where
   format : (n v : ℕ) → Call
   new : Call
   hold release size : (s : ℕ) → Call
-  free-nodes : Call
+  free_nodes : Call
   get : (s k : ℕ) → Call
   first last : (s : ℕ) → Call
   insert : (s : ℕ) → Entry → Call

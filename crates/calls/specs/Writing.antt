@@ -25,7 +25,7 @@ pub record Formatted (n v : ℕ) (ws : List ℕ) (a : Answer) (ws' : List ℕ) :
   pub n_is : nodes ws' ≡ n
   pub v_is : slots ws' ≡ v
   pub spares : (k : ℕ) → head_word < k → k < header_words → get_or ws' k 0 ≡ 0
-  pub free-listed : Chain n ws' (head ws') (run 1 n)
+  pub free_listed : Chain n ws' (head ws') (run 1 n)
   pub counts : (i : ℕ) → 1 ≤ i → i ≤ n → count ws' i ≡ 0
   pub kept : (i k : ℕ) → 1 ≤ i → i ≤ n → key_word ≤ k → k < count_word → (k ≡ left_word → ⊥) →
       get_or ws' (node_words * i + k) 0 ≡ get_or ws (node_words * i + k) 0

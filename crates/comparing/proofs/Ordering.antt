@@ -57,8 +57,8 @@ ranked (e ∷ xs) (f ∷ ys) h = then_decided (compare_entries e f) (compare xs 
 parts_ranked : {xs ys : List trees.Entry} {h : Heads} → Parts xs ys h → compare xs ys ≡ rank (found_of h.one) (found_of h.other)
 parts_ranked P =
     rw
-    (P.one_is, P.other_is, compare_front P.alike P.one P.other, P.one-first, P.other_first)
-    (ranked P.one P.other (rw (← P.one-first, ← P.other_first) P.apart))
+    (P.one_is, P.other_is, compare_front P.alike P.one P.other, P.one_first, P.other_first)
+    (ranked P.one P.other (rw (← P.one_first, ← P.other_first) P.apart))
 
 pub roots_compared : {ws : List ℕ} {i j : ℕ} {h : Heads} {d : Sign} → PartsBelow ws i j h →
     sign_of d ≡ rank (found_of h.one) (found_of h.other) → Compares ws i j d

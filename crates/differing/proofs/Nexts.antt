@@ -54,9 +54,9 @@ module _ {h : Heads} where
       call.Answer.difference (spec.only_second (entry_of y)) ≡ or_ended (heads_differ (found_of h.one) (found_of h.other))
   second_left e f = rw (e, f)
 
-  pub first-left : {x : Entry} → h.one ≡ At x → h.other ≡ Nothing →
+  pub first_left : {x : Entry} → h.one ≡ At x → h.other ≡ Nothing →
       call.Answer.difference (spec.only_first (entry_of x)) ≡ or_ended (heads_differ (found_of h.one) (found_of h.other))
-  first-left e f = rw (e, f)
+  first_left e f = rw (e, f)
 
   pub both_left : {x y : Entry} {d : spec.Difference} → h.one ≡ At x → h.other ≡ At y → d ≡ entries_differ (entry_of x) (entry_of y) →
       call.Answer.difference d ≡ or_ended (heads_differ (found_of h.one) (found_of h.other))
@@ -80,8 +80,8 @@ heads_first (e ∷ xs) (f ∷ ys) h =
 parts_differ : {xs ys : List trees.Entry} {h : Heads} → Parts xs ys h → first_of (differences xs ys) ≡ heads_differ (found_of h.one) (found_of h.other)
 parts_differ P =
     rw
-    (P.one_is, P.other_is, differences_front P.alike P.one P.other, P.one-first, P.other_first)
-    (heads_first P.one P.other (rw (← P.one-first, ← P.other_first) P.apart))
+    (P.one_is, P.other_is, differences_front P.alike P.one P.other, P.one_first, P.other_first)
+    (heads_first P.one P.other (rw (← P.one_first, ← P.other_first) P.apart))
 
 pub descends_root : {ws : List ℕ} {i : ℕ} {a : List ℕ} → length a ≡ stack_numbers → Ordered ws i → Descends ws i a 0
 descends_root l O =

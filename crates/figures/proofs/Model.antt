@@ -27,18 +27,18 @@ use Rattle.calls.specs.Version.{VersionIs, Lowest}
 use Rattle.calls.specs.Writing.{Formatted, HandsOutRoot, Edited, Removed}
 use Rattle.calls.specs.Outcome.{Accepted, Outcome}
 use Rattle.calls.proofs.Versions.{version_one, version_size}
-use Rattle.calls.proofs.OneSlot.{OneSlot, same-slots, held_before, carried, hands_out_one}
+use Rattle.calls.proofs.OneSlot.{OneSlot, same_slots, held_before, carried, hands_out_one}
 use Rattle.calls.proofs.Sharing.{no_root, shared_one, shared_version, shared_free}
 use Rattle.calls.proofs.Formatting.{format_sound, format_free, format_not_held}
 use Rattle.calls.proofs.FormatExists.{format_exists}
 use Rattle.calls.proofs.Histories.{answer_accepts, answer_refuses}
 use Rattle.calls.proofs.Determined.{determined}
-use Rattle.calls.proofs.ReadingOutcomes.{free-nodes_outcome, size_outcome, bad_range_outcome, next_outcome, difference_outcome}
+use Rattle.calls.proofs.ReadingOutcomes.{free_nodes_outcome, size_outcome, bad_range_outcome, next_outcome, difference_outcome}
 use Rattle.calls.proofs.ReadingLaws.{readers_write_nothing}
 use Rattle.calls.proofs.WritingOutcomes.{new_outcome, insert_full, remove_full}
 use Rattle.calls.proofs.Taken.{takes}
 use Rattle.figures.specs.Figures.{bare}
-use Rattle.figures.proofs.Places.{listing-bare, size-bare, bare-relabel, made-edit-bare, bare-edit-bare}
+use Rattle.figures.proofs.Places.{listing-bare, size-bare, bare-relabel, made_edit_bare, bare_edit_bare}
 use Rattle.figures.proofs.Existing.{insert_exists, remove_exists}
 
 -- No call of the figures gives a slot up, so that slots are handed out in order: those below `held` hold the trees, bare.
@@ -90,7 +90,7 @@ play st Call.new = when (ltb st.held st.v) (some (hands st leaf))
 play st (Call.hold s) = none
 play st (Call.release s) = none
 play st (Call.size s) = when (ltb s st.held) (some (told st (Answer.number (size (st.trees s)))))
-play st Call.free-nodes = some (told st (Answer.number st.free))
+play st Call.free_nodes = some (told st (Answer.number st.free))
 play st (Call.get s k) = none
 play st (Call.first s) = none
 play st (Call.last s) = none
@@ -194,7 +194,7 @@ module _ {ws : List ℕ} {st : State} (K : Shows ws st) where
     handed =
         record {
           sound = d.sound;
-          v_is = same-slots d.others ∙ K.v_is;
+          v_is = same_slots d.others ∙ K.v_is;
           free_is = λ S. omega (arith, f S);
           shown = λ s p. go s p (eqb s st.held) refl;
           unheld = λ s p h. K.unheld s (omega arith) (held_before d.others s (λ q. omega arith) h);
@@ -233,13 +233,13 @@ module _ {ws : List ℕ} {st : State} (K : Shows ws st) where
       (edit d (st.trees s))
       (subst (λ (i : ℕ). OneSlot i ws w) q (hands_out_one o))
       (subst (λ (i : ℕ). VersionIs w i o.tree) q o.version)
-      (sym (bare-relabel (was_free ws) o.tree) ∙ ap bare o.tree_is ∙ bare-edit-bare d g.version ∙
+      (sym (bare-relabel (was_free ws) o.tree) ∙ ap bare o.tree_is ∙ bare_edit_bare d g.version ∙
       ap (λ (t : Tree). bare (edit d t)) b)
       (λ S. omega (
         arith,
         takes o K.sound S,
         K.free_is K.sound,
-        made-edit-bare d g.version,
+        made_edit_bare d g.version,
         ap (λ (t : Tree). made (edit d t)) b,
       ))
 
@@ -330,10 +330,10 @@ module _ {ws : List ℕ} {st : State} (K : Shows ws st) where
       let answers : ℕ → Type 0 = λ n. Outcome (Call.size s) ws (Answer.number n) ws in
       reads_agrees K refl (subst answers (version_size K.sound x ∙ size_is s p) (size_outcome K.sound x))
 
-  free_plays : Agrees Call.free-nodes ws (told st (Answer.number st.free))
+  free_plays : Agrees Call.free_nodes ws (told st (Answer.number st.free))
   free_plays =
-      let answers : ℕ → Type 0 = λ n. Outcome Call.free-nodes ws (Answer.number n) ws in
-      reads_agrees K refl (subst answers (K.free_is K.sound) (free-nodes_outcome K.sound))
+      let answers : ℕ → Type 0 = λ n. Outcome Call.free_nodes ws (Answer.number n) ws in
+      reads_agrees K refl (subst answers (K.free_is K.sound) (free_nodes_outcome K.sound))
 
   -- What is played agrees.
   module _ {c : Call} {p : Played} where
@@ -360,7 +360,7 @@ module _ {ws : List ℕ} {st : State} (K : Shows ws st) where
   plays (Call.hold s) p e = never e
   plays (Call.release s) p e = never e
   plays (Call.size s) p e = under s st.held e (λ h e. only e (size_plays s h))
-  plays Call.free-nodes p e = only e free_plays
+  plays Call.free_nodes p e = only e free_plays
   plays (Call.get s k) p e = never e
   plays (Call.first s) p e = never e
   plays (Call.last s) p e = never e

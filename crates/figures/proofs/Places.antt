@@ -162,11 +162,11 @@ strip_reads n ws i (node p c l e r) h = rw (h.0, strip_reads n ws _ l h.2, strip
 
 -- So an edit of a version makes as many nodes, and comes to the same tree, as the edit of the version without numbers.
 module _ (d : Edit) {ws : List ℕ} {s : ℕ} {t : Tree} (x : VersionIs ws s t) where
-  edit-bare : strip (edit d t) ≡ edit d (bare t)
-  edit-bare = strip_edit d t ∙ ap (edit d) (strip_reads (nodes ws) ws (slot_root (nodes ws) ws s) t x.reads)
+  edit_bare : strip (edit d t) ≡ edit d (bare t)
+  edit_bare = strip_edit d t ∙ ap (edit d) (strip_reads (nodes ws) ws (slot_root (nodes ws) ws s) t x.reads)
 
-  pub made-edit-bare : made (edit d t) ≡ made (edit d (bare t))
-  made-edit-bare = sym (made_strip (edit d t)) ∙ ap made edit-bare
+  pub made_edit_bare : made (edit d t) ≡ made (edit d (bare t))
+  made_edit_bare = sym (made_strip (edit d t)) ∙ ap made edit_bare
 
-  pub bare-edit-bare : bare (edit d t) ≡ bare (edit d (bare t))
-  bare-edit-bare = sym (bare_strip (edit d t)) ∙ ap bare edit-bare
+  pub bare_edit_bare : bare (edit d t) ≡ bare (edit d (bare t))
+  bare_edit_bare = sym (bare_strip (edit d t)) ∙ ap bare edit_bare

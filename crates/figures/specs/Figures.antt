@@ -56,7 +56,7 @@ abbrev set : (s k q : ℕ) → Step
 set s k q = asks (Call.insert s (e k)) (Answer.slot q)
 
 abbrev free : ℕ → Step
-free m = asks Call.free-nodes (Answer.number m)
+free m = asks Call.free_nodes (Answer.number m)
 
 abbrev refuses_room : Call → Step
 refuses_room c = asks c (Answer.refused Refusal.no_room)

@@ -58,7 +58,7 @@ pub extern "C" fn foamcorbel_size(ws: &[u32], s: u32, out: &mut [u32; 1]) -> u32
 // How many nodes are free.
 #[unsafe(no_mangle)]
 pub extern "C" fn foamcorbel_free_nodes(ws: &[u32], out: &mut [u32; 1]) -> u32
-    ensures { Gives Call.free-nodes ws.now out.old result ws.now out.new }
+    ensures { Gives Call.free_nodes ws.now out.old result ws.now out.new }
 {
     pass_number(red_black_tree_map::free_nodes(ws), out)
 }

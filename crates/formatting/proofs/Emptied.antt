@@ -8,7 +8,7 @@ use native.Mathlib.Decide.{ℕ_discrete}
 use lib.ListN.{length}
 use Rattle.words.specs.Layout.{slot_root, slot_size, not_held, arena_words}
 use Rattle.words.specs.Model.{unslotting}
-use Rattle.words.proofs.Slotting.{InSlot, slotting_in, slotting_root, slotting-size, other_root, other_size}
+use Rattle.words.proofs.Slotting.{InSlot, slotting_in, slotting_root, slotting_size, other_root, other_size}
 use Rattle.arena.specs.Nodes.{SlotInside}
 use Rattle.formatting.specs.Steps.{EmptyBelow}
 
@@ -41,7 +41,7 @@ module _ {q n : ℕ} {ws ws' : List ℕ} (k : EmptyBelow q n ws ws') where
         go s p (yes z) =
             rw z (
               slotting_root n ws' q not_held 0 (omega (arith, k.long)),
-              slotting-size n ws' q not_held 0 (omega (arith, k.long)),
+              slotting_size n ws' q not_held 0 (omega (arith, k.long)),
             )
         go s p (no f) = (
           other_root n q ws' (unslotting n ws' q) d s f ∙ (k.empty s (omega arith)).0,

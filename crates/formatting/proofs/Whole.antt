@@ -107,7 +107,7 @@ module _ {n v : ℕ} {ws w1 : List ℕ} {r : Bool} (d : Decides r (Limits n v (l
             n_is = header_word 0 (omega arith) (λ z. omega arith);
             v_is = header_word 1 (omega arith) (λ z. omega arith);
             spares = λ k p q. header_word k q (λ z. omega arith) ∙ header_zero n v k (omega arith);
-            free-listed = listed;
+            free_listed = listed;
             counts = λ i o p. same_count i p ∙ f.counts i o p;
             kept = node_kept;
             unheld = g.empty;

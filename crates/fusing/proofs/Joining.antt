@@ -30,12 +30,12 @@ not_black_color black ne = absurd (ne refl)
 
 -- `join`: a red middle comes between the two nodes.
 module _ {ws p : List ℕ} {x y f : Node} {m : ℕ} (F : Looks ws p m f) where
-  pub join-between : {q r s : List ℕ} {i j res : ℕ} → Ends ws p x m y → f.color ≡ 0 →
+  pub join_between : {q r s : List ℕ} {i j res : ℕ} → Ends ws p x m y → f.color ≡ 0 →
       Steps ws p q 1 (record { entry = x.entry; left = x.left; right = f.left; color = x.color }) i itself →
       Steps ws q r 1 (record { entry = y.entry; left = f.right; right = y.right; color = y.color }) j itself →
       Steps ws r s 1 (record { entry = f.entry; left = i; right = j; color = f.color }) res itself → Fuses ws p s x m y res
   unfolding join
-  join-between E e S T U = record {
+  join_between E e S T U = record {
     grown = onward S.grown (onward {k = 2} T.grown U.grown (omega arith)) (omega arith);
     holds = λ c k ha hm hb.
         let g = F.sees hm in
@@ -45,7 +45,7 @@ module _ {ws p : List ℕ} {x y f : Node} {m : ℕ} (F : Looks ws p m f) where
         {c = red}
         e
         (T.grown.keeps (S.holds {c = c} k ha g.left_is))
-        (T.holds {c = c} (E.right-color ∙ sym E.left-color ∙ k) (S.grown.keeps g.right_is) (S.grown.keeps hb)));
+        (T.holds {c = c} (E.right_color ∙ sym E.left_color ∙ k) (S.grown.keeps g.right_is) (S.grown.keeps hb)));
   }
 
   module _ (E : Ends ws p x m y) (ne : f.color ≡ 0 → ⊥) where
@@ -61,16 +61,16 @@ module _ {ws p : List ℕ} {x y f : Node} {m : ℕ} (F : Looks ws p m f) where
       holds = λ c k ha hm hb.
           rw
           (code_same c red (sym k ∙ e), not_red F ne hm)
-          (T.holds {c = red} refl (S.grown.keeps ha) (S.holds {c = red} (E.right-color ∙ sym E.left-color ∙ e) hm hb));
+          (T.holds {c = red} refl (S.grown.keeps ha) (S.holds {c = red} (E.right_color ∙ sym E.left_color ∙ e) hm hb));
     }
 
     -- Of two black nodes the left one is balanced: the right one below it is black, as `remove_balance_left` asks.
     module _ {q : List ℕ} {n : ℕ} (nr : x.color ≡ 0 → ⊥) (S : Steps ws p q 1 below n itself) where
       both_black : E.color ≡ black
-      both_black = not_red_color E.color (λ z. nr (E.left-color ∙ z))
+      both_black = not_red_color E.color (λ z. nr (E.left_color ∙ z))
 
       right_black : y.color ≡ code black
-      right_black = E.right-color ∙ ap code both_black
+      right_black = E.right_color ∙ ap code both_black
 
       pub room_leans : Room ws p join_room → Room ws q side_room
       room_leans R = room_after R S.grown (omega arith)
@@ -94,14 +94,14 @@ module _ {ws p : List ℕ} {x y f : Node} {m : ℕ} (F : Looks ws p m f) where
         grown = onward S.grown T.grown (omega arith);
         holds = λ c k ha hm hb.
             rw
-            (code_same c E.color (sym k ∙ E.left-color) ∙ both_black, not_red F ne hm)
+            (code_same c E.color (sym k ∙ E.left_color) ∙ both_black, not_red F ne hm)
             (T.holds {c = red} refl (S.grown.keeps ha) (S.holds {c = black} right_black hm hb));
       }
 
 -- `fuse`, by the colours of the two trees.
 module _ {t u : Tree} {p q : Place} {x y : Entry} where
   plain_same : (c : Color) → t ≡ node p c (lf t) x (rt t) → u ≡ node q c (lf u) y (rt u) → fuse t u ≡ join c (lf t) x (fuse (rt t) (lf u)) y (rt u)
-  plain_same c e f = ap₂ fuse e f ∙ fusing.fuse-same p q (lf t) (rt t) (lf u) (rt u) x y c
+  plain_same c e f = ap₂ fuse e f ∙ fusing.fuse_same p q (lf t) (rt t) (lf u) (rt u) x y c
 
   plain_black_red : t ≡ node p black (lf t) x (rt t) → u ≡ node q red (lf u) y (rt u) → fuse t u ≡ node fresh red (fuse t (lf u)) y (rt u)
   plain_black_red e f =
@@ -114,16 +114,16 @@ module _ {t u : Tree} {p q : Place} {x y : Entry} where
       ap (λ (s : Tree). node fresh red (lf t) x (fuse (rt t) s)) (sym f)
 
 -- One of the trees is empty.
-pub fuse-left_none : {ws p q : List ℕ} {l r res : ℕ} (h : ℕ) → l ≡ 0 → Turns ws p q 1 r res copy → Joins ws p q (fuse_room h) l r res fuse
-fuse-left_none h e T = record {
+pub fuse_left_none : {ws p q : List ℕ} {l r res : ℕ} (h : ℕ) → l ≡ 0 → Turns ws p q 1 r res copy → Joins ws p q (fuse_room h) l r res fuse
+fuse_left_none h e T = record {
   grown = grow_to T.grown (omega arith);
-  holds = λ {b = b} ha hb. rw (is_leaf e ha, fusing.fuse-left_none b) (T.holds hb);
+  holds = λ {b = b} ha hb. rw (is_leaf e ha, fusing.fuse_left_none b) (T.holds hb);
 }
 
-pub fuse-right_none : {ws p q : List ℕ} {l r res : ℕ} (h : ℕ) → r ≡ 0 → Turns ws p q 1 l res copy → Joins ws p q (fuse_room h) l r res fuse
-fuse-right_none h e T = record {
+pub fuse_right_none : {ws p q : List ℕ} {l r res : ℕ} (h : ℕ) → r ≡ 0 → Turns ws p q 1 l res copy → Joins ws p q (fuse_room h) l r res fuse
+fuse_right_none h e T = record {
   grown = grow_to T.grown (omega arith);
-  holds = λ {a = a} ha hb. rw (is_leaf e hb, fusing.fuse-right_none a) (T.holds ha);
+  holds = λ {a = a} ha hb. rw (is_leaf e hb, fusing.fuse_right_none a) (T.holds ha);
 }
 
 tall : {ws p : List ℕ} {link : ℕ} {t : Tree} → (link ≡ 0 → ⊥) → Holds ws p link t → 1 ≤ height t
@@ -196,8 +196,8 @@ module _ {ws p : List ℕ} {l r : ℕ} {a b : Node} (nl : l ≡ 0 → ⊥) (nr :
       middle = record { tree = fuse (rt t) (lf u); held = J.holds in_a.held in_b.held };
       right = some_kept J.grown B.right;
       color = top_a.color;
-      left-color = top_a.coded;
-      right-color = sym e ∙ top_a.coded;
+      left_color = top_a.coded;
+      right_color = sym e ∙ top_a.coded;
     }
 
     -- The three ways to fuse them.

@@ -34,8 +34,8 @@ pub record Ends (ws plan : List ℕ) (x : Node) (m : ℕ) (y : Node) : Type 0 wh
   pub middle : Some ws plan m
   pub right : Some ws plan y.right
   pub color : Color
-  pub left-color : x.color ≡ code color
-  pub right-color : y.color ≡ code color
+  pub left_color : x.color ≡ code color
+  pub right_color : y.color ≡ code color
 
 -- The plain `join` of them.
 pub record Fuses (ws plan plan' : List ℕ) (x : Node) (m : ℕ) (y : Node) (res : ℕ) : Type 0 where

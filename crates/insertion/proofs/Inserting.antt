@@ -21,8 +21,8 @@ use Rattle.balancing.specs.Promises.{balance_room}
 use Rattle.insertion.specs.Promises.{ins_room, insert_room, News}
 
 module _ {ws p p' : List ℕ} {x : Node} {new : Bool} {res : ℕ} where
-  pub settle-new : new ≡ true → Steps ws p p' balance_room x res balance → Steps ws p p' balance_room x res (settle (not new))
-  settle-new e S = record { grown = S.grown; holds = λ k ha hb. rw e (S.holds k ha hb) }
+  pub settle_new : new ≡ true → Steps ws p p' balance_room x res balance → Steps ws p p' balance_room x res (settle (not new))
+  settle_new e S = record { grown = S.grown; holds = λ k ha hb. rw e (S.holds k ha hb) }
 
   pub settle_old : new ≡ false → Steps ws p p' 1 x res itself → Steps ws p p' balance_room x res (settle (not new))
   settle_old e S = record { grown = grow_to S.grown (omega arith); holds = λ k ha hb. rw e (S.holds k ha hb) }
@@ -73,11 +73,11 @@ module _ {ws p : List ℕ} {link : ℕ} {x : Node} (L : Looks ws p link x) (ne :
 
   -- A smaller key goes left.
   module _ (e : Entry) (lt : e.key < x.entry.key) {new : Bool} (N : News ws p x.left e.key new) where
-    pub ins-left : {p' p'' : List ℕ} {h l res : ℕ} → Held ws p link h → Turns ws p p' (ins_room (h - 1)) x.left l (ins (entry_of e)) →
+    pub ins_left : {p' p'' : List ℕ} {h l res : ℕ} → Held ws p link h → Turns ws p p' (ins_room (h - 1)) x.left l (ins (entry_of e)) →
         Steps ws p' p'' balance_room (record { entry = x.entry; left = l; right = x.right; color = x.color }) res (settle (not new)) →
         Turns ws p p'' (ins_room h) link res (ins (entry_of e))
     unfolding ins
-    ins-left H T S =
+    ins_left H T S =
         let b = tall L ne H in
         record {
           grown = onward T.grown S.grown (omega arith);
@@ -94,11 +94,11 @@ module _ {ws p : List ℕ} {link : ℕ} {x : Node} (L : Looks ws p link x) (ne :
 
   -- A greater key goes right.
   module _ (e : Entry) (lt : x.entry.key < e.key) {new : Bool} (N : News ws p x.right e.key new) where
-    pub ins-right : {p' p'' : List ℕ} {h r res : ℕ} → Held ws p link h → Turns ws p p' (ins_room (h - 1)) x.right r (ins (entry_of e)) →
+    pub ins_right : {p' p'' : List ℕ} {h r res : ℕ} → Held ws p link h → Turns ws p p' (ins_room (h - 1)) x.right r (ins (entry_of e)) →
         Steps ws p' p'' balance_room (record { entry = x.entry; left = x.left; right = r; color = x.color }) res (settle (not new)) →
         Turns ws p p'' (ins_room h) link res (ins (entry_of e))
     unfolding ins
-    ins-right H T S =
+    ins_right H T S =
         let b = tall L ne H in
         record {
           grown = onward T.grown S.grown (omega arith);

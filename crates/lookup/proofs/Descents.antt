@@ -86,9 +86,9 @@ module _ {ws : List ℕ} {i : ℕ} {d : Node} (s : i ≡ 0 → ⊥) (m : IsNode 
     unfolding get
     get_left {r} l g = at_node r (get k) s m (λ n p c a b ha hb. rw (lt-ltb k d.entry.key l) (g.says n a ha))
 
-    pub get-right : {r : Found} → d.entry.key < k → Finds ws d.right r (get k) → Finds ws i r (get k)
+    pub get_right : {r : Found} → d.entry.key < k → Finds ws d.right r (get k) → Finds ws i r (get k)
     unfolding get
-    get-right {r} l g =
+    get_right {r} l g =
         at_node r (get k) s m (λ n p c a b ha hb. rw (le-ltb k d.entry.key (omega arith), lt-ltb d.entry.key k l) (g.says n b hb))
 
     pub get_here : d.entry.key ≤ k → k ≤ d.entry.key → Finds ws i (At d.entry) (get k)
@@ -96,10 +96,10 @@ module _ {ws : List ℕ} {i : ℕ} {d : Node} (s : i ≡ 0 → ⊥) (m : IsNode 
     get_here l g =
         at_node (At d.entry) (get k) s m (λ n p c a b ha hb. rw (le-ltb k d.entry.key l, le-ltb d.entry.key k g))
 
-  pub first-left : {l r : Found} → Finds ws d.left l first → found_of r ≡ or_else (found_of l) (entry_of d.entry) → Finds ws i r first
+  pub first_left : {l r : Found} → Finds ws d.left l first → found_of r ≡ or_else (found_of l) (entry_of d.entry) → Finds ws i r first
   unfolding first
-  first-left {l} {r} g e = at_node r first s m (λ n p c a b ha hb. e ∙ ap (λ (o : Option Entry). or_else o (entry_of d.entry)) (g.says n a ha))
+  first_left {l} {r} g e = at_node r first s m (λ n p c a b ha hb. e ∙ ap (λ (o : Option Entry). or_else o (entry_of d.entry)) (g.says n a ha))
 
-  pub last-right : {l r : Found} → Finds ws d.right l last → found_of r ≡ or_else (found_of l) (entry_of d.entry) → Finds ws i r last
+  pub last_right : {l r : Found} → Finds ws d.right l last → found_of r ≡ or_else (found_of l) (entry_of d.entry) → Finds ws i r last
   unfolding last
-  last-right {l} {r} g e = at_node r last s m (λ n p c a b ha hb. e ∙ ap (λ (o : Option Entry). or_else o (entry_of d.entry)) (g.says n b hb))
+  last_right {l} {r} g e = at_node r last s m (λ n p c a b ha hb. e ∙ ap (λ (o : Option Entry). or_else o (entry_of d.entry)) (g.says n b hb))

@@ -18,7 +18,7 @@ use Rattle.arena.specs.declared.Entry as arena
 use Rattle.lookup.specs.declared.Found.{Found}
 use Rattle.lookup.specs.declared.Found.TheVariants.{At, Nothing}
 use Rattle.lookup.specs.Finding.{Rooted, Finds}
-use Rattle.lookup.proofs.Descents.{rooted_left, rooted_right, get_none, get_left, get-right, get_here}
+use Rattle.lookup.proofs.Descents.{rooted_left, rooted_right, get_none, get_left, get_right, get_here}
 
 -- What is found further on, or else what was noted on the way there.
 abbrev pub or_noted : Found → Found → Found
@@ -63,7 +63,7 @@ module _ {ws : List ℕ} {i at h : ℕ} (k : ℕ) (L : Leads (get k) ws i at h N
       get_side e =
           rw e (fork (λ (x : ℕ). Leads (get k) ws i x (h - 1) Nothing) (ltb k d.entry.key)
           (λ t. leads_on L (rooted_left L.rooted s m) (λ r g. get_left s m k (ltb-true k d.entry.key t) g))
-          (λ t. leads_on L (rooted_right L.rooted s m) (λ r g. get-right s m k (omega (arith, ltb-false k d.entry.key t)) g)))
+          (λ t. leads_on L (rooted_right L.rooted s m) (λ r g. get_right s m k (omega (arith, ltb-false k d.entry.key t)) g)))
 
       pub get_childless : d.left ≡ 0 → d.right ≡ 0 → Finds ws i Nothing (get k)
       get_childless l r =

@@ -11,7 +11,7 @@ use Rattle.words.specs.Reads.{Reads}
 use Rattle.words.specs.Model.{with_count, freeing, releasing, freed}
 use Rattle.words.proofs.Counts.{occ-first}
 use Rattle.words.proofs.Recounting.{owned_long, idles_few}
-use Rattle.words.proofs.Releasing.{releasing_none, freed_none, releasing_more, freed_more, releasing-last, freed-last, released_free, in_turn, kept_pending, releasing_released}
+use Rattle.words.proofs.Releasing.{releasing_none, freed_none, releasing_more, freed_more, releasing_last, freed_last, released_free, in_turn, kept_pending, releasing_released}
 use Rattle.arena.specs.Nodes.{NodeInside}
 use Rattle.nodes.specs.Promises.{Any, Holds, Releases}
 
@@ -32,7 +32,7 @@ last_released zero ws i p q m = absurd (omega arith)
 last_released (suc h) ws zero p q m = absurd (omega arith)
 last_released (suc h) ws (suc i) p q m =
     let e : suc h - 1 ≡ h = omega arith in
-    rw e (record { words_are = sym (releasing-last h ws i m); freed_is = sym (freed-last h ws i m) })
+    rw e (record { words_are = sym (releasing_last h ws i m); freed_is = sym (freed_last h ws i m) })
 
 -- A release frees no more nodes than there are.
 freed_few : {ws : List ℕ} {i h : ℕ} → Holds ws i h → freed h ws i ≤ max_nodes

@@ -127,14 +127,14 @@ module _ {ws plan : List ℕ} {link : ℕ} {x : Node} (L : Looks ws plan link x)
     pub tall : 1 ≤ h
     tall = (lower ne H.some.held H.fits).0
 
-    pub held-left : Held ws plan x.left (h - 1)
-    held-left = record {
+    pub held_left : Held ws plan x.left (h - 1)
+    held_left = record {
       some = record { tree = lf H.some.tree; held = (L.sees H.some.held).left_is };
       fits = (lower ne H.some.held H.fits).1;
     }
 
-    pub held-right : Held ws plan x.right (h - 1)
-    held-right = record {
+    pub held_right : Held ws plan x.right (h - 1)
+    held_right = record {
       some = record { tree = rt H.some.tree; held = (L.sees H.some.held).right_is };
       fits = (lower ne H.some.held H.fits).2;
     }

@@ -40,9 +40,9 @@ module _ (plan : List ℕ) (x : Node) (h : PlanInside plan (used plan + 1)) wher
   unfolding pushed
   pushed_length = length-set written 0 (used plan + 1) ∙ length_storing plan (plan_node_words * used plan) plan_key_word (node_list x)
 
-  pub pushed-used : used (pushed plan x) ≡ used plan + 1
+  pub pushed_used : used (pushed plan x) ≡ used plan + 1
   unfolding pushed
-  pushed-used =
+  pushed_used =
       get_or-set_same written 0 (used plan + 1) 0
       (let e = length_storing plan (plan_node_words * used plan) plan_key_word (node_list x) in omega arith)
 
@@ -67,25 +67,25 @@ module _ (plan : List ℕ) (x : Node) (h : PlanInside plan (used plan + 1)) wher
     color_is = old_word (plan_node_words * j + plan_color_word) (omega arith) (omega arith);
   }
 
-  new-entry : plan_entry (pushed plan x) (used plan) ≡ entry_of x.entry
+  new_entry : plan_entry (pushed plan x) (used plan) ≡ entry_of x.entry
   unfolding plan_entry
-  new-entry = rw (new_word 0 (omega arith), new_word 1 (omega arith))
+  new_entry = rw (new_word 0 (omega arith), new_word 1 (omega arith))
 
-  new-left : plan_left (pushed plan x) (used plan) ≡ x.left
+  new_left : plan_left (pushed plan x) (used plan) ≡ x.left
   unfolding plan_left
-  new-left = new_word 2 (omega arith)
+  new_left = new_word 2 (omega arith)
 
-  new-right : plan_right (pushed plan x) (used plan) ≡ x.right
+  new_right : plan_right (pushed plan x) (used plan) ≡ x.right
   unfolding plan_right
-  new-right = new_word 3 (omega arith)
+  new_right = new_word 3 (omega arith)
 
-  new-color : plan_color (pushed plan x) (used plan) ≡ x.color
+  new_color : plan_color (pushed plan x) (used plan) ≡ x.color
   unfolding plan_color
-  new-color = new_word 4 (omega arith)
+  new_color = new_word 4 (omega arith)
 
   module _ (ws : List ℕ) where
     keeps : {link : ℕ} {t : Tree} → Holds ws plan link t → Holds ws (pushed plan x) link t
-    keeps g = frame (let u = pushed-used in omega arith) older g
+    keeps g = frame (let u = pushed_used in omega arith) older g
 
     pub pushed_holds : {c : Color} {a b : Tree} → x.color ≡ code c → Holds ws plan x.left a → Holds ws plan x.right b →
         Holds ws (pushed plan x) (nodes ws + 1 + used plan) (node fresh c a (entry_of x.entry) b)
@@ -94,14 +94,14 @@ module _ (plan : List ℕ) (x : Node) (h : PlanInside plan (used plan + 1)) wher
         let e : spot ws (nodes ws + 1 + used plan) ≡ used plan = omega arith in
         let new : PlanIs ws q (nodes ws + 1 + used plan) c (entry_of x.entry) = record {
           low = omega arith;
-          high = (let u = pushed-used in omega arith);
-          color_is = ap (plan_color q) e ∙ new-color ∙ k;
-          entry_is = ap (plan_entry q) e ∙ new-entry;
+          high = (let u = pushed_used in omega arith);
+          color_is = ap (plan_color q) e ∙ new_color ∙ k;
+          entry_is = ap (plan_entry q) e ∙ new_entry;
         } in
         planned
         new
-        (subst (λ (z : ℕ). Holds ws q z a) (sym (ap (plan_left q) e ∙ new-left)) (keeps ha))
-        (subst (λ (z : ℕ). Holds ws q z b) (sym (ap (plan_right q) e ∙ new-right)) (keeps hb))
+        (subst (λ (z : ℕ). Holds ws q z a) (sym (ap (plan_left q) e ∙ new_left)) (keeps ha))
+        (subst (λ (z : ℕ). Holds ws q z b) (sym (ap (plan_right q) e ∙ new_right)) (keeps hb))
 
 -- What `push` answers.
 pub pushed_steps : {ws plan plan' : List ℕ} {x : Node} {n : ℕ} → plan' ≡ pushed plan x → n ≡ nodes ws → Room ws plan 1 →
@@ -112,7 +112,7 @@ pushed_steps {ws} {plan} {plan'} {x} e at h =
     (record {
       grown = record {
         keeps = keeps plan x h.room ws;
-        grows = (let u = pushed-used plan x h.room in omega arith);
+        grows = (let u = pushed_used plan x h.room in omega arith);
         same = pushed_length plan x h.room;
       };
       holds = pushed_holds plan x h.room ws;

@@ -31,28 +31,28 @@ module _ {ws : List ℕ} {i at h : ℕ} {noted : Found} (p : ℕ → Bool) where
   greatest_end L z = L.leads Nothing (at_none Nothing (greatest p) z refl)
 
   module _ {d : Node} {t : Bool} {link : ℕ} {next : Found} (s : at ≡ 0 → ⊥) (m : IsNode ws at d) (tested : t ≡ p d.entry.key) where
-    pub least-left : t ≡ true → link ≡ d.left → next ≡ At d.entry → Leads (least p) ws i at h noted → Leads (least p) ws i link (h - 1) next
+    pub least_left : t ≡ true → link ≡ d.left → next ≡ At d.entry → Leads (least p) ws i at h noted → Leads (least p) ws i link (h - 1) next
     unfolding least
-    least-left y l e L =
+    least_left y l e L =
         rw (l, e)
         (leads_noting L (rooted_left L.rooted s m)
         (λ r g. at_node (or_noted r (At d.entry)) (least p) s m (λ n q c a b ha hb. rw (sym tested ∙ y) (noted_else r d.entry (g.says n a ha)))))
 
-    pub least-right : t ≡ false → link ≡ d.right → next ≡ noted → Leads (least p) ws i at h noted → Leads (least p) ws i link (h - 1) next
+    pub least_right : t ≡ false → link ≡ d.right → next ≡ noted → Leads (least p) ws i at h noted → Leads (least p) ws i link (h - 1) next
     unfolding least
-    least-right y l e L =
+    least_right y l e L =
         rw (l, e)
         (leads_on L (rooted_right L.rooted s m) (λ r g. at_node r (least p) s m (λ n q c a b ha hb. rw (sym tested ∙ y) (g.says n b hb))))
 
-    pub greatest-right : t ≡ true → link ≡ d.right → next ≡ At d.entry → Leads (greatest p) ws i at h noted → Leads (greatest p) ws i link (h - 1) next
+    pub greatest_right : t ≡ true → link ≡ d.right → next ≡ At d.entry → Leads (greatest p) ws i at h noted → Leads (greatest p) ws i link (h - 1) next
     unfolding greatest
-    greatest-right y l e L =
+    greatest_right y l e L =
         rw (l, e)
         (leads_noting L (rooted_right L.rooted s m)
         (λ r g. at_node (or_noted r (At d.entry)) (greatest p) s m (λ n q c a b ha hb. rw (sym tested ∙ y) (noted_else r d.entry (g.says n b hb)))))
 
-    pub greatest-left : t ≡ false → link ≡ d.left → next ≡ noted → Leads (greatest p) ws i at h noted → Leads (greatest p) ws i link (h - 1) next
+    pub greatest_left : t ≡ false → link ≡ d.left → next ≡ noted → Leads (greatest p) ws i at h noted → Leads (greatest p) ws i link (h - 1) next
     unfolding greatest
-    greatest-left y l e L =
+    greatest_left y l e L =
         rw (l, e)
         (leads_on L (rooted_left L.rooted s m) (λ r g. at_node r (greatest p) s m (λ n q c a b ha hb. rw (sym tested ∙ y) (g.says n a ha))))

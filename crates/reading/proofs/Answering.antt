@@ -7,7 +7,7 @@ use Prim.Native.Nat.{ℕ}
 use Rattle.trees.specs.Tree as trees
 use Rattle.trees.specs.Listing.{is_some}
 use Rattle.trees.specs.Lookup as lookup
-use Rattle.trees.proofs.Lookups.{get-find}
+use Rattle.trees.proofs.Lookups.{get_find}
 use Rattle.words.specs.Layout.{nodes, slot_size}
 use Rattle.words.specs.Sound.{Sound}
 use Rattle.arena.specs.Nodes.{entry_of}
@@ -87,7 +87,7 @@ module _ {ws : List ℕ} {s : ℕ} {x : Entered} (S : Sound ws) (g : Enters ws s
             let v = version_of S s (slot_held S g e) in
             rescale_mark_outcome S v (is_some (found_of y) || false)
             (ap (λ (o : Option trees.Entry). is_some o || false)
-            (sym (get-find rescale_slope (slot_tree S g e) (version_fine S v).ordered) ∙ sym (found_in S g e f (lookup.get rescale_slope) m) ∙ ap found_of z))
+            (sym (get_find rescale_slope (slot_tree S g e) (version_fine S v).ordered) ∙ sym (found_in S g e f (lookup.get rescale_slope) m) ∙ ap found_of z))
 
         pub mark_yes : {y : Entry} → f ≡ At y → Outcome (call.Call.rescale_mark s) ws (call.Answer.truth true) ws
         mark_yes z = mark_found z

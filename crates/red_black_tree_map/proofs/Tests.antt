@@ -6,13 +6,13 @@ use mathlib.Core.Option.{Option, none, some}
 use Prim.Native.Nat.{ℕ}
 use native.Mathlib.Omega.{arith}
 use Rattle.words.specs.Sound as words
-use Rattle.words.proofs.FreeNumber.{same-free}
+use Rattle.words.proofs.FreeNumber.{same_free}
 use Rattle.calls.specs.Refusal.{Refusal}
 use Rattle.calls.specs.Call.{Call, Answer}
 use Rattle.calls.specs.Table.{tests}
 use Rattle.calls.specs.Outcome.{Outcome}
 use Rattle.calls.proofs.Passing.{unsound_outcome}
-use Rattle.calls.proofs.ReadingOutcomes.{free-nodes_outcome, sound_outcome, not_sound_outcome}
+use Rattle.calls.proofs.ReadingOutcomes.{free_nodes_outcome, sound_outcome, not_sound_outcome}
 use Rattle.soundness.specs.declared.Tested.{Tested}
 use Rattle.soundness.specs.declared.Tested.TheVariants.{Sound, Unsound}
 use Rattle.soundness.specs.Verdict.{Verdict}
@@ -31,10 +31,10 @@ module _ {ws : List ℕ} {r : Tested} where
     tested_sound = told.0
 
     pub tested_free : FreeIs ws f
-    tested_free = record { is = λ S. same-free ws S told.0 ∙ told.1 }
+    tested_free = record { is = λ S. same_free ws S told.0 ∙ told.1 }
 
-    pub free_told : Outcome Call.free-nodes ws (Answer.number f) ws
-    free_told = subst (λ (n : ℕ). Outcome Call.free-nodes ws (Answer.number n) ws) told.1 (free-nodes_outcome told.0)
+    pub free_told : Outcome Call.free_nodes ws (Answer.number f) ws
+    free_told = subst (λ (n : ℕ). Outcome Call.free_nodes ws (Answer.number n) ws) told.1 (free_nodes_outcome told.0)
 
     pub sound_told : Outcome Call.soundness_test ws (Answer.truth true) ws
     sound_told = sound_outcome tested_sound

@@ -70,7 +70,7 @@ pub fn size(ws: &[u32], s: u32) -> NumberAnswer
 
 // How many nodes are free.
 pub fn free_nodes(ws: &[u32]) -> NumberAnswer
-    ensures { Outcome Call.free-nodes ws.now (number_answer result) ws.now }
+    ensures { Outcome Call.free_nodes ws.now (number_answer result) ws.now }
 {
     let Tested::Sound(free) = test(ws) else {
         return NumberAnswer::Refused(Refusal::Unsound);

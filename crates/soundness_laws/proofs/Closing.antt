@@ -50,9 +50,9 @@ module _ (ws names' queue : List ℕ) (tail : ℕ) (R : Reach ws names' queue ta
     one_each j p q (yes l) = omega (arith, live_queued ws (sound_owned ws S) Q F j (p, q, l), idle_pos (count ws j) l)
     one_each j p q (no l) = let z : count ws j ≡ 0 = omega arith in omega (arith, F.idle j p q z, idle_zero (count ws j) z)
 
-    free-rest : free_number S + tail ≡ nodes ws
+    free_rest : free_number S + tail ≡ nodes ws
     unfolding idles idle_at times
-    free-rest =
+    free_rest =
         omega (
           arith,
           sound_idles ws S,
@@ -62,8 +62,8 @@ module _ (ws names' queue : List ℕ) (tail : ℕ) (R : Reach ws names' queue ta
 
     sound_spares : (k : ℕ) → k ≡ nodes ws - tail → SpareList ws k
     sound_spares k e =
-        let z : k ≡ free_number S = omega (arith, free-rest) in
-        record { spares = rw z (chain_spares ws (head ws) S.books.free S.books.free-listed S.books.free_counts) }
+        let z : k ≡ free_number S = omega (arith, free_rest) in
+        record { spares = rw z (chain_spares ws (head ws) S.books.free S.books.free_listed S.books.free_counts) }
 
   module _ (k : ℕ) (ek : k ≡ nodes ws - tail) (r : Bool) (d : Decides r (SpareList ws k)) where
     pub reach_no : not r ≡ true → Sound ws → ⊥
@@ -139,18 +139,18 @@ module _ (ws names' queue : List ℕ) (tail : ℕ) (R : Reach ws names' queue ta
           let z : count ws j ≡ 0 = omega arith in
           when_zero (occ j Q) w (F.idle j p q z) ∙ sym (when_zero (count ws j) w z)
 
-      met-names : (x : ℕ) → met ws (slots ws) Q x ≡ names (nodes ws) (slots ws) ws [] x
+      met_names : (x : ℕ) → met ws (slots ws) Q x ≡ names (nodes ws) (slots ws) ws [] x
       unfolding met names occ
-      met-names x =
+      met_names x =
           omega (
             arith,
             list_sum (left ws) (right ws) x (nodes ws) Q F.inside once,
             sum_same (by_list (left ws) (right ws) x Q) (kids ws x) 1 (nodes ws) (λ j p q. kids_in x j p (omega arith) (dec_le 1 (count ws j))),
           )
 
-      count-met : (x : ℕ) → 1 ≤ x → x ≤ nodes ws → Dec (met ws (slots ws) Q x < count ws x) → count ws x ≡ met ws (slots ws) Q x
-      count-met x p q (yes h) = absurd (omega (arith, live x (p, q, omega arith), F.some x p q h))
-      count-met x p q (no h) = omega (arith, F.low x p q)
+      count_met : (x : ℕ) → 1 ≤ x → x ≤ nodes ws → Dec (met ws (slots ws) Q x < count ws x) → count ws x ≡ met ws (slots ws) Q x
+      count_met x p q (yes h) = absurd (omega (arith, live x (p, q, omega arith), F.some x p q h))
+      count_met x p q (no h) = omega (arith, F.low x p q)
 
       pub reach_whole : Whole ws queue tail
       reach_whole =
@@ -165,7 +165,7 @@ module _ (ws names' queue : List ℕ) (tail : ℕ) (R : Reach ws names' queue ta
             lefts = lefts;
             rights = rights;
             roots = roots;
-            counts = λ x p q. count-met x p q (dec_lt (met ws (slots ws) Q x) (count ws x)) ∙ met-names x;
+            counts = λ x p q. count_met x p q (dec_lt (met ws (slots ws) Q x) (count ws x)) ∙ met_names x;
             free = G;
             chain = W.1;
             frees = λ x p q. frees x p q (dec_le 1 (count ws x));

@@ -65,9 +65,9 @@ module _ (ws : List ℕ) (f : ℕ → ℕ) (Q : List ℕ) (F : Full ws f Q) (x :
     some_last y p q l (yes e) = absurd (omega (arith, same_eq x y e, ap f e, ap (count ws) e))
     some_last y p q l (no d) = omega (arith, occ-last y Q x, same_ne x y d, F.some y p q (omega arith))
 
-    idle-last : (y : ℕ) → 1 ≤ y → y ≤ nodes ws → count ws y ≡ 0 → Dec (x ≡ y) → occ y Q' ≡ 0
-    idle-last y p q c (yes e) = absurd (omega (arith, ap (count ws) e))
-    idle-last y p q c (no d) = omega (arith, occ-last y Q x, same_ne x y d, F.idle y p q c)
+    idle_last : (y : ℕ) → 1 ≤ y → y ≤ nodes ws → count ws y ≡ 0 → Dec (x ≡ y) → occ y Q' ≡ 0
+    idle_last y p q c (yes e) = absurd (omega (arith, ap (count ws) e))
+    idle_last y p q c (no d) = omega (arith, occ-last y Q x, same_ne x y d, F.idle y p q c)
 
     in_last : (y : ℕ) → 1 ≤ occ y Q' → Dec (x ≡ y) → (1 ≤ y) × (y ≤ nodes ws)
     in_last y o (yes e) = (omega arith, omega arith)
@@ -84,6 +84,6 @@ module _ (ws : List ℕ) (f : ℕ → ℕ) (Q : List ℕ) (F : Full ws f Q) (x :
           inside = λ y o. in_last y o (ℕ_discrete x y);
           all = λ y p q c z. all_last y p q c z (ℕ_discrete x y);
           some = λ y p q l. some_last y p q l (ℕ_discrete x y);
-          idle = λ y p q c. idle-last y p q c (ℕ_discrete x y);
+          idle = λ y p q c. idle_last y p q c (ℕ_discrete x y);
           reached = λ y o. reached_last y o (ℕ_discrete x y);
         }

@@ -28,7 +28,7 @@ past_kept ws queue queue' p e f h =
       left_link = rw f h.left_link;
       right_link = rw f h.right_link;
       left_after = rw (f, e) h.left_after;
-      right-after = rw (f, e) h.right-after;
+      right_after = rw (f, e) h.right_after;
     }
 
 -- i is the node at the front, l and r are its links, as they were read.
@@ -142,8 +142,8 @@ module _ (ws : List ℕ) (front : ℕ) (names queue : List ℕ) (tail : ℕ) (H 
                   let e : take (front + 1) queue2 ≡ P' = rw add-one (same_take (suc front) less) in
                   rw (el, er, e) (met_both y)
 
-              left-new : occ (left ws i) P' ≡ 0
-              left-new =
+              left_new : occ (left ws i) P' ≡ 0
+              left_new =
                   let n = arrived_new ws f0 names queue tail H.queued l names1 queue1 t b1 in
                   rw (← el) (omega (arith, occ_take l (suc front) tail queue less))
 
@@ -165,8 +165,8 @@ module _ (ws : List ℕ) (front : ℕ) (names queue : List ℕ) (tail : ℕ) (H 
                   (record {
                     left_link = rw (← ei) (omega (arith, el, arrived_link ws l names queue tail names1 queue1 t b1));
                     right_link = rw (← ei) (omega (arith, er, arrived_link ws r names1 queue1 t names2 queue2 u b2));
-                    left_after = rw (← ei) left-new;
-                    right-after = rw (← ei) right_new;
+                    left_after = rw (← ei) left_new;
+                    right_after = rw (← ei) right_new;
                   })
 
               past_more : (p : ℕ) → p < front + 1 → Dec (p ≡ front) → Past ws queue2 p

@@ -41,45 +41,45 @@ rb_same (rb_black p q) (rb_black p' q') = ap suc (rb_same p p')
 -- What the shape of a node says of its children.
 record Parts (c : Color) (l r : Tree) : Type 0 where
   blacks : ℕ
-  left-shape : Rb blacks l
-  right-shape : Rb blacks r
-  left-color : code c ≡ code red → is_red l ≡ false
-  right-color : code c ≡ code red → is_red r ≡ false
+  left_shape : Rb blacks l
+  right_shape : Rb blacks r
+  left_color : code c ≡ code red → is_red l ≡ false
+  right_color : code c ≡ code red → is_red r ≡ false
 
 parts : {b : ℕ} (p : Place) (c : Color) (l : Tree) (e : Entry) (r : Tree) → Rb b (node p c l e r) → Parts c l r
 parts p red l e r (rb_red {n = n} h i a b) =
-    record { blacks = n; left-shape = a; right-shape = b; left-color = λ _. h; right-color = λ _. i }
+    record { blacks = n; left_shape = a; right_shape = b; left_color = λ _. h; right_color = λ _. i }
 parts p black l e r (rb_black {n = n} a b) =
-    record { blacks = n; left-shape = a; right-shape = b; left-color = λ z. absurd (omega arith); right-color = λ z. absurd (omega arith) }
+    record { blacks = n; left_shape = a; right_shape = b; left_color = λ z. absurd (omega arith); right_color = λ z. absurd (omega arith) }
 
 -- A good tree's children are good.
 pub good_left : (p : Place) (c : Color) (l : Tree) (e : Entry) (r : Tree) → Good (node p c l e r) → Good l
 good_left p c l e r g =
     let P = parts p c l e r g.shape in
-    record { ordered = (split (listing l) e (listing r) g.ordered).before; blacks = P.blacks; shape = P.left-shape }
+    record { ordered = (split (listing l) e (listing r) g.ordered).before; blacks = P.blacks; shape = P.left_shape }
 
 pub good_right : (p : Place) (c : Color) (l : Tree) (e : Entry) (r : Tree) → Good (node p c l e r) → Good r
 good_right p c l e r g =
     let P = parts p c l e r g.shape in
-    record { ordered = (split (listing l) e (listing r) g.ordered).after; blacks = P.blacks; shape = P.right-shape }
+    record { ordered = (split (listing l) e (listing r) g.ordered).after; blacks = P.blacks; shape = P.right_shape }
 
 whole-shape : (p : Place) (c : Color) (l : Tree) (e : Entry) (r : Tree) (P : Parts c l r) → Rb (P.blacks + code c) (node p c l e r)
 whole-shape p red l e r P =
     let z : P.blacks + 0 ≡ P.blacks = omega arith in
-    rw z (rb_red (P.left-color refl) (P.right-color refl) P.left-shape P.right-shape)
+    rw z (rb_red (P.left_color refl) (P.right_color refl) P.left_shape P.right_shape)
 whole-shape p black l e r P =
     let z : P.blacks + 1 ≡ suc P.blacks = omega arith in
-    rw z (rb_black P.left-shape P.right-shape)
+    rw z (rb_black P.left_shape P.right_shape)
 
 module _ (c : Color) (e : Entry) (a b : Brief) (l r : Tree) (x : Tells a l) (y : Tells b r) where
   fits_parts : Fits (code c) e.key a b → Parts c l r
   fits_parts f =
       record {
         blacks = x.good.blacks;
-        left-shape = x.good.shape;
-        right-shape = (let z : x.good.blacks ≡ y.good.blacks = omega (arith, x.blacks_is, y.blacks_is, f.even) in rw z y.good.shape);
-        left-color = λ z. shade_black (is_red l) (λ w. f.colors.left z (x.color_is ∙ w));
-        right-color = λ z. shade_black (is_red r) (λ w. f.colors.right z (y.color_is ∙ w));
+        left_shape = x.good.shape;
+        right_shape = (let z : x.good.blacks ≡ y.good.blacks = omega (arith, x.blacks_is, y.blacks_is, f.even) in rw z y.good.shape);
+        left_color = λ z. shade_black (is_red l) (λ w. f.colors.left z (x.color_is ∙ w));
+        right_color = λ z. shade_black (is_red r) (λ w. f.colors.right z (y.color_is ∙ w));
       }
 
   fits_split : Fits (code c) e.key a b → Split (listing l) e (listing r)
@@ -103,11 +103,11 @@ module _ (c : Color) (e : Entry) (a b : Brief) (l r : Tree) (x : Tells a l) (y :
       record {
         colors = record {
           known = code_le c;
-          left = λ z w. omega (arith, x.color_is, black_shade (is_red l) (P.left-color z));
-          right = λ z w. omega (arith, y.color_is, black_shade (is_red r) (P.right-color z));
+          left = λ z w. omega (arith, x.color_is, black_shade (is_red l) (P.left_color z));
+          right = λ z w. omega (arith, y.color_is, black_shade (is_red r) (P.right_color z));
         };
         even =
-            omega (arith, x.blacks_is, y.blacks_is, rb_same x.good.shape P.left-shape, rb_same y.good.shape P.right-shape);
+            omega (arith, x.blacks_is, y.blacks_is, rb_same x.good.shape P.left_shape, rb_same y.good.shape P.right_shape);
         keys = record {
           after = λ h. omega (arith, x.greatest_is, last_below e.key 0 (listing l) s.below (omega (arith, x.size_is)));
           before = λ h. omega (arith, y.least_is, first_above e.key (listing r) s.above (omega (arith, y.size_is)));

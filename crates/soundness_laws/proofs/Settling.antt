@@ -110,8 +110,8 @@ module _ (ws queue : List ℕ) (tail : ℕ) (W : Whole ws queue tail) where
               within = W.within;
               low = (W.inside i here).0;
               high = (W.inside i here).1;
-              left = child (left ws i) (W.lefts i here) (rw ei P.left_After) (dec_le 1 (left ws i));
-              right = child (right ws i) (W.rights i here) (rw ei P.right-after) (dec_le 1 (right ws i));
+              left = child (left ws i) (W.lefts i here) (rw ei P.left_after) (dec_le 1 (left ws i));
+              right = child (right ws i) (W.rights i here) (rw ei P.right_after) (dec_le 1 (right ws i));
             }
 
         module _ (B' : ℕ → Brief) (r : Bool) (d : Answers r (Settled ws B B' i) (Barren ws i)) where

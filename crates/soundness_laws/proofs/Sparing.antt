@@ -103,5 +103,5 @@ module _ (ws : List ℕ) (all i k : ℕ) (w : Walk ws all i k) where
   pub walk_end : k ≤ 0 → i ≡ 0 → Decides true (SpareList ws all)
   walk_end l e = say_yes ((over ws all i k w l).on e)
 
-  pub walk-past : k ≤ 0 → (i ≡ 0 → ⊥) → Decides false (SpareList ws all)
-  walk-past l f = say_no (λ h. f ((over ws all i k w l).back h))
+  pub walk_past : k ≤ 0 → (i ≡ 0 → ⊥) → Decides false (SpareList ws all)
+  walk_past l f = say_no (λ h. f ((over ws all i k w l).back h))

@@ -31,8 +31,8 @@ module _ (ws : List ℕ) (B : ℕ → Brief) (A : AllKnown ws B) (s : ℕ) (l : 
     ez : z ≡ slot_size (nodes ws) ws s
     ez = size_read ws s z n en es
 
-    pub free-right : z ≡ 0 → Decides true (SlotRight ws s)
-    free-right h = say_yes (record { version = inl (sym ex ∙ e, sym ez ∙ h) })
+    pub free_right : z ≡ 0 → Decides true (SlotRight ws s)
+    free_right h = say_yes (record { version = inl (sym ex ∙ e, sym ez ∙ h) })
 
     pub free_wrong : (z ≡ 0 → ⊥) → Decides false (SlotRight ws s)
     free_wrong f = say_no (λ v. go v.version)

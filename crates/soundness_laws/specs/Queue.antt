@@ -80,7 +80,7 @@ pub record Past (ws queue : List ℕ) (p : ℕ) : Type 0 where
   pub left_link : left ws (get_or queue p 0) ≤ nodes ws
   pub right_link : right ws (get_or queue p 0) ≤ nodes ws
   pub left_after : occ (left ws (get_or queue p 0)) (take (suc p) queue) ≡ 0
-  pub right-after : occ (right ws (get_or queue p 0)) (take (suc p) queue) ≡ 0
+  pub right_after : occ (right ws (get_or queue p 0)) (take (suc p) queue) ≡ 0
 
 -- And so have the children of the first nodes of the queue, up to `front`.
 pub record Heads (ws : List ℕ) (front : ℕ) (names queue : List ℕ) (tail : ℕ) : Type 0 where

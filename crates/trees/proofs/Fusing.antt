@@ -3,15 +3,15 @@ use mathlib.Core.Path.{◌≡◌, refl}
 use Rattle.trees.specs.Tree.{Entry, Color, red, black, Place, fresh, Tree, leaf, node, copy}
 use Rattle.trees.specs.Remove.{fuse, fuse_node, join}
 
-pub fuse-left_none : (r : Tree) → fuse leaf r ≡ copy r
+pub fuse_left_none : (r : Tree) → fuse leaf r ≡ copy r
 unfolding fuse
-fuse-left_none r = refl
+fuse_left_none r = refl
 
-pub fuse-right_none : (l : Tree) → fuse l leaf ≡ copy l
+pub fuse_right_none : (l : Tree) → fuse l leaf ≡ copy l
 unfolding fuse fuse_node
-fuse-right_none leaf = refl
-fuse-right_none (node p red l e r) = refl
-fuse-right_none (node p black l e r) = refl
+fuse_right_none leaf = refl
+fuse_right_none (node p red l e r) = refl
+fuse_right_none (node p black l e r) = refl
 
 module _ (p q : Place) (ll lr rl rr : Tree) (le re : Entry) where
   pub fuse_black_red : fuse (node p black ll le lr) (node q red rl re rr) ≡ node fresh red (fuse (node p black ll le lr) rl) re rr
@@ -22,7 +22,7 @@ module _ (p q : Place) (ll lr rl rr : Tree) (le re : Entry) where
   unfolding fuse fuse_node
   fuse_red_black = refl
 
-  pub fuse-same : (c : Color) → fuse (node p c ll le lr) (node q c rl re rr) ≡ join c ll le (fuse lr rl) re rr
+  pub fuse_same : (c : Color) → fuse (node p c ll le lr) (node q c rl re rr) ≡ join c ll le (fuse lr rl) re rr
   unfolding fuse fuse_node
-  fuse-same red = refl
-  fuse-same black = refl
+  fuse_same red = refl
+  fuse_same black = refl

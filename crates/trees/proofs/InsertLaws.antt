@@ -9,7 +9,7 @@ use Rattle.trees.specs.Shape.{Rb, rb_leaf, rb_red, rb_black, Fine}
 use Rattle.trees.specs.Lookup.{has}
 use Rattle.trees.specs.Insert.{risen, balance, ins, insert}
 use Rattle.trees.proofs.InsertCases.{Balance, balanced, Safe, Settle, still, turned, Ins, inserted}
-use Rattle.trees.proofs.Listings.{split, put-left, put_right, put_here, ascending_put}
+use Rattle.trees.proofs.Listings.{split, put_left, put_right, put_here, ascending_put}
 
 -- The listing.
 
@@ -33,21 +33,21 @@ listing-paint c leaf = refl
 listing-paint c (node p d l e r) = refl
 
 module _ (x : Entry) where
-  listing-Ins : {b : Bool} {t u : Tree} → Ins x b t u → Ascending (listing t) → listing u ≡ put x (listing t)
-  listing-Ins Ins.new a = refl
-  listing-Ins (Ins.here {l = l} {r = r} {e = e} h) a =
+  listing_Ins : {b : Bool} {t u : Tree} → Ins x b t u → Ascending (listing t) → listing u ≡ put x (listing t)
+  listing_Ins Ins.new a = refl
+  listing_Ins (Ins.here {l = l} {r = r} {e = e} h) a =
       sym (put_here x (listing l) e (listing r) (split (listing l) e (listing r) a).below h)
-  listing-Ins (Ins.left {l = l} {r = r} {e = e} h g s) a =
-      listing-Settle s ∙ ap (λ (y : List Entry). y ++ (e ∷ listing r)) (listing-Ins g (split (listing l) e (listing r) a).before) ∙
-      sym (put-left x (listing l) e (listing r) h)
-  listing-Ins (Ins.right {l = l} {r = r} {e = e} h g s) a =
-      listing-Settle s ∙ ap (λ (y : List Entry). listing l ++ (e ∷ y)) (listing-Ins g (split (listing l) e (listing r) a).after) ∙
+  listing_Ins (Ins.left {l = l} {r = r} {e = e} h g s) a =
+      listing-Settle s ∙ ap (λ (y : List Entry). y ++ (e ∷ listing r)) (listing_Ins g (split (listing l) e (listing r) a).before) ∙
+      sym (put_left x (listing l) e (listing r) h)
+  listing_Ins (Ins.right {l = l} {r = r} {e = e} h g s) a =
+      listing-Settle s ∙ ap (λ (y : List Entry). listing l ++ (e ∷ y)) (listing_Ins g (split (listing l) e (listing r) a).after) ∙
       sym (put_right x (listing l) e (listing r) (split (listing l) e (listing r) a).below h)
 
   -- The listing of `insert` is `put`.
-  pub listing-insert : (t : Tree) → Ascending (listing t) → listing (insert x t) ≡ put x (listing t)
+  pub listing_insert : (t : Tree) → Ascending (listing t) → listing (insert x t) ≡ put x (listing t)
   unfolding insert
-  listing-insert t a = listing-paint black (ins x t) ∙ listing-Ins (inserted x t) a
+  listing_insert t a = listing-paint black (ins x t) ∙ listing_Ins (inserted x t) a
 
 -- The shape. Between the steps a red root may have a red child.
 pub data Near : ℕ → Tree → Type 0 where
@@ -80,19 +80,19 @@ pub rb_risen : {n : ℕ} {a b c d : Tree} {x y z : Entry} → Rb n a × Rb n b �
 rb_risen f g = rb_red refl refl (rb_black f.0 f.1) (rb_black g.0 g.1)
 
 -- `balance` at a black node mends one side.
-pub rb_balance-left : {n : ℕ} {p : Place} {l r u : Tree} {e : Entry} → Balance (node p black l e r) u → Near n l → Rb n r → Rb (suc n) u
-rb_balance-left Balance.ll a b = let f = near_parts a in rb_risen (parts f.0) (f.1, b)
-rb_balance-left (Balance.lr j) a b = let f = near_parts a in let g = parts f.1 in rb_risen (f.0, g.0) (g.1, b)
-rb_balance-left (Balance.rl j) a b = absurd (true≢false (not_red b).0)
-rb_balance-left (Balance.rr j k) a b = absurd (true≢false (not_red b).1)
-rb_balance-left (Balance.calm s) a b = rb_black (near_safe s.0 a) b
+pub rb_balance_left : {n : ℕ} {p : Place} {l r u : Tree} {e : Entry} → Balance (node p black l e r) u → Near n l → Rb n r → Rb (suc n) u
+rb_balance_left Balance.ll a b = let f = near_parts a in rb_risen (parts f.0) (f.1, b)
+rb_balance_left (Balance.lr j) a b = let f = near_parts a in let g = parts f.1 in rb_risen (f.0, g.0) (g.1, b)
+rb_balance_left (Balance.rl j) a b = absurd (true≢false (not_red b).0)
+rb_balance_left (Balance.rr j k) a b = absurd (true≢false (not_red b).1)
+rb_balance_left (Balance.calm s) a b = rb_black (near_safe s.0 a) b
 
-pub rb_balance-right : {n : ℕ} {p : Place} {l r u : Tree} {e : Entry} → Balance (node p black l e r) u → Rb n l → Near n r → Rb (suc n) u
-rb_balance-right (Balance.rl j) a b = let f = near_parts b in let g = parts f.0 in rb_risen (a, g.0) (g.1, f.1)
-rb_balance-right (Balance.rr j k) a b = let f = near_parts b in rb_risen (a, f.0) (parts f.1)
-rb_balance-right Balance.ll a b = absurd (true≢false (not_red a).0)
-rb_balance-right (Balance.lr j) a b = absurd (true≢false (not_red a).1)
-rb_balance-right (Balance.calm s) a b = rb_black a (near_safe s.1 b)
+pub rb_balance_right : {n : ℕ} {p : Place} {l r u : Tree} {e : Entry} → Balance (node p black l e r) u → Rb n l → Near n r → Rb (suc n) u
+rb_balance_right (Balance.rl j) a b = let f = near_parts b in let g = parts f.0 in rb_risen (a, g.0) (g.1, f.1)
+rb_balance_right (Balance.rr j k) a b = let f = near_parts b in rb_risen (a, f.0) (parts f.1)
+rb_balance_right Balance.ll a b = absurd (true≢false (not_red a).0)
+rb_balance_right (Balance.lr j) a b = absurd (true≢false (not_red a).1)
+rb_balance_right (Balance.calm s) a b = rb_black a (near_safe s.1 b)
 
 -- At a red node it does nothing.
 near_red : {n : ℕ} {p : Place} {l r u : Tree} {e : Entry} → Balance (node p red l e r) u → Rb n l → Rb n r → Near n u
@@ -116,9 +116,9 @@ module _ {x : Entry} where
   rb_new : {n : ℕ} {t u : Tree} → Ins x false t u → Rb n t → Near n u × (is_red t ≡ false → Rb n u)
   rb_new Ins.new rb_leaf = let a = rb_red refl refl rb_leaf rb_leaf in (well a, λ _. a)
   rb_new (Ins.left h g (turned s)) (rb_red i j a b) = (near_red s ((rb_new g a).1 i) b, λ e. absurd (true≢false e))
-  rb_new (Ins.left h g (turned s)) (rb_black a b) = let c = rb_balance-left s (rb_new g a).0 b in (well c, λ _. c)
+  rb_new (Ins.left h g (turned s)) (rb_black a b) = let c = rb_balance_left s (rb_new g a).0 b in (well c, λ _. c)
   rb_new (Ins.right h g (turned s)) (rb_red i j a b) = (near_red s a ((rb_new g b).1 j), λ e. absurd (true≢false e))
-  rb_new (Ins.right h g (turned s)) (rb_black a b) = let c = rb_balance-right s a (rb_new g b).0 in (well c, λ _. c)
+  rb_new (Ins.right h g (turned s)) (rb_black a b) = let c = rb_balance_right s a (rb_new g b).0 in (well c, λ _. c)
 
   pub near_ins : {n : ℕ} {t u : Tree} (b : Bool) → Ins x b t u → Rb n t → Near n u
   near_ins true g a = well (rb_replaced g a).0
@@ -141,7 +141,7 @@ unfolding insert
 fine_insert x t g =
     let s = rb_paint (near_ins (has x.key t) (inserted x t) g.shape) in
     record {
-      ordered = rw (listing-insert x t g.ordered) (ascending_put x (listing t) g.ordered);
+      ordered = rw (listing_insert x t g.ordered) (ascending_put x (listing t) g.ordered);
       root = root_paint (ins x t);
       blacks = s.0;
       shape = s.1;

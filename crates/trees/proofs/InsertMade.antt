@@ -33,13 +33,13 @@ never : {A : Type 0} {b : Bool} → b ≡ false → b ≡ true → A
 never h i = absurd (true≢false (sym i ∙ h))
 
 module _ (k : ℕ) (p : Place) (c : Color) (l : Tree) (e : Entry) (r : Tree) where
-  path-left : k < e.key → path k (node p c l e r) ≡ suc (path k l)
+  path_left : k < e.key → path k (node p c l e r) ≡ suc (path k l)
   unfolding path
-  path-left h = rw (lt-ltb k e.key h)
+  path_left h = rw (lt-ltb k e.key h)
 
-  path-right : e.key < k → path k (node p c l e r) ≡ suc (path k r)
+  path_right : e.key < k → path k (node p c l e r) ≡ suc (path k r)
   unfolding path
-  path-right h = rw (le-ltb k e.key (omega arith), lt-ltb e.key k h)
+  path_right h = rw (le-ltb k e.key (omega arith), lt-ltb e.key k h)
 
   path_here : k ≡ e.key → path k (node p c l e r) ≡ 1
   unfolding path
@@ -82,21 +82,21 @@ module _ {x : Entry} where
   made_replaced : {t u : Tree} → Ins x true t u → made t ≡ 0 → (made u ≡ path x.key t) × (top u ≡ 1)
   made_replaced (Ins.here {p = p} {c = c} {l = l} {r = r} {e = e} h) z = (omega (arith, path_here x.key p c l e r h), refl)
   made_replaced (Ins.left {p = p} {c = c} {l = l} {r = r} {e = e} h g still) z =
-      (omega (arith, path-left x.key p c l e r h, (made_replaced g (omega arith)).0), refl)
+      (omega (arith, path_left x.key p c l e r h, (made_replaced g (omega arith)).0), refl)
   made_replaced (Ins.right {p = p} {c = c} {l = l} {r = r} {e = e} h g still) z =
-      (omega (arith, path-right x.key p c l e r h, (made_replaced g (omega arith)).0), refl)
+      (omega (arith, path_right x.key p c l e r h, (made_replaced g (omega arith)).0), refl)
 
-  made-new : {n : ℕ} {t u : Tree} → Ins x false t u → Rb n t → made t ≡ 0 → (made u ≡ suc (path x.key t)) × Hot u
+  made_new : {n : ℕ} {t u : Tree} → Ins x false t u → Rb n t → made t ≡ 0 → (made u ≡ suc (path x.key t)) × Hot u
   unfolding path
-  made-new Ins.new a z = (refl, hot_red leaf x leaf (never refl) (never refl))
-  made-new (Ins.left {p = p} {c = c} {l = l} {r = r} {e = e} h g (turned s)) a z =
-      let d = made-new g (parts a).0 (omega arith) in
+  made_new Ins.new a z = (refl, hot_red leaf x leaf (never refl) (never refl))
+  made_new (Ins.left {p = p} {c = c} {l = l} {r = r} {e = e} h g (turned s)) a z =
+      let d = made_new g (parts a).0 (omega arith) in
       let f = grown_left c s d.1 a in
-      (omega (arith, path-left x.key p c l e r h, d.0, f.0), f.1)
-  made-new (Ins.right {p = p} {c = c} {l = l} {r = r} {e = e} h g (turned s)) a z =
-      let d = made-new g (parts a).1 (omega arith) in
+      (omega (arith, path_left x.key p c l e r h, d.0, f.0), f.1)
+  made_new (Ins.right {p = p} {c = c} {l = l} {r = r} {e = e} h g (turned s)) a z =
+      let d = made_new g (parts a).1 (omega arith) in
       let f = grown_right c s d.1 a in
-      (omega (arith, path-right x.key p c l e r h, d.0, f.0), f.1)
+      (omega (arith, path_right x.key p c l e r h, d.0, f.0), f.1)
 
 made_root : (c : Color) (t : Tree) → top t ≡ 1 → made (paint c t) ≡ made t
 made_root c leaf h = refl
@@ -109,4 +109,4 @@ made-insert x t a z = go (has x.key t) (inserted x t)
   where
     go : (b : Bool) → Ins x b t (ins x t) → made (paint black (ins x t)) ≡ path x.key t + (if b then 0 else 1)
     go true g = let m = made_replaced g z in omega (arith, made_root black (ins x t) m.1, m.0)
-    go false g = let m = made-new g a z in omega (arith, made_root black (ins x t) m.1.root, m.0)
+    go false g = let m = made_new g a z in omega (arith, made_root black (ins x t) m.1.root, m.0)

@@ -44,9 +44,9 @@ split (x ∷ xs) e ys a =
     all (_ ∷ xs) h = (h.0, all xs h.1)
 
 module _ (x : Entry) where
-  pub put-left : (xs : List Entry) (e : Entry) (ys : List Entry) → x.key < e.key → put x (xs ++ (e ∷ ys)) ≡ put x xs ++ (e ∷ ys)
-  put-left [] e ys h = rw (lt-ltb x.key e.key h)
-  put-left (z ∷ xs) e ys h = go (ltb x.key z.key) (ltb z.key x.key) (put-left xs e ys h)
+  pub put_left : (xs : List Entry) (e : Entry) (ys : List Entry) → x.key < e.key → put x (xs ++ (e ∷ ys)) ≡ put x xs ++ (e ∷ ys)
+  put_left [] e ys h = rw (lt-ltb x.key e.key h)
+  put_left (z ∷ xs) e ys h = go (ltb x.key z.key) (ltb z.key x.key) (put_left xs e ys h)
     where
       go : (b c : Bool) → put x (xs ++ (e ∷ ys)) ≡ put x xs ++ (e ∷ ys) →
           (if b then x ∷ (z ∷ (xs ++ (e ∷ ys))) else if c then z ∷ put x (xs ++ (e ∷ ys)) else x ∷ (xs ++ (e ∷ ys)))
@@ -127,13 +127,13 @@ module _ (k : ℕ) where
   find_none [] a = refl
   find_none (x ∷ xs) a = rw (ne_eqb k x.key (omega arith)) (find_none xs a.1)
 
-  pub find-left : (xs : List Entry) (e : Entry) (ys : List Entry) → k < e.key → Above e.key ys → find k (xs ++ (e ∷ ys)) ≡ find k xs
-  find-left [] e ys h a = find_none (e ∷ ys) (h, above_less h ys a)
-  find-left (x ∷ xs) e ys h a = ap (λ (o : Option Entry). if eqb k x.key then some x else o) (find-left xs e ys h a)
+  pub find_left : (xs : List Entry) (e : Entry) (ys : List Entry) → k < e.key → Above e.key ys → find k (xs ++ (e ∷ ys)) ≡ find k xs
+  find_left [] e ys h a = find_none (e ∷ ys) (h, above_less h ys a)
+  find_left (x ∷ xs) e ys h a = ap (λ (o : Option Entry). if eqb k x.key then some x else o) (find_left xs e ys h a)
 
-  pub find-right : (xs : List Entry) (e : Entry) (ys : List Entry) → Below e.key xs → e.key < k → find k (xs ++ (e ∷ ys)) ≡ find k ys
-  find-right [] e ys b h = rw (ne_eqb k e.key (omega arith))
-  find-right (x ∷ xs) e ys b h = rw (ne_eqb k x.key (omega arith)) (find-right xs e ys b.1 h)
+  pub find_right : (xs : List Entry) (e : Entry) (ys : List Entry) → Below e.key xs → e.key < k → find k (xs ++ (e ∷ ys)) ≡ find k ys
+  find_right [] e ys b h = rw (ne_eqb k e.key (omega arith))
+  find_right (x ∷ xs) e ys b h = rw (ne_eqb k x.key (omega arith)) (find_right xs e ys b.1 h)
 
   pub find_here : (xs : List Entry) (e : Entry) (ys : List Entry) → Below e.key xs → k ≡ e.key → find k (xs ++ (e ∷ ys)) ≡ some e
   find_here [] e ys b h = rw (eq-eqb k e.key h)

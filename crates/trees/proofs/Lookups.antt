@@ -10,7 +10,7 @@ use Rattle.heights.proofs.Choices.{compared, compared₂}
 use Rattle.trees.specs.Tree.{Entry, Tree, leaf, node, listing, size, height}
 use Rattle.trees.specs.Listing.{find, first_of, last_of, or_else, is_some, Ascending}
 use Rattle.trees.specs.Lookup.{get, has, path, first, last}
-use Rattle.trees.proofs.Listings.{split, find-left, find-right, find_here}
+use Rattle.trees.proofs.Listings.{split, find_left, find_right, find_here}
 
 -- A tree has as many nodes as its listing has entries.
 pub size-listing : (t : Tree) → size t ≡ length (listing t)
@@ -18,39 +18,39 @@ size-listing leaf = refl
 size-listing (node p c l e r) = simp length-append (omega (arith, size-listing l, size-listing r))
 
 module _ (k : ℕ) where
-  pub get-find : (t : Tree) → Ascending (listing t) → get k t ≡ find k (listing t)
+  pub get_find : (t : Tree) → Ascending (listing t) → get k t ≡ find k (listing t)
   unfolding get
-  get-find leaf a = refl
-  get-find (node p c l e r) a =
+  get_find leaf a = refl
+  get_find (node p c l e r) a =
       let s = split (listing l) e (listing r) a in
       compared
       (λ (o : Option Entry). o ≡ find k (listing l ++ (e ∷ listing r)))
       k
       e.key
-      (λ h. get-find l s.before ∙ sym (find-left k (listing l) e (listing r) h s.above))
-      (λ h. get-find r s.after ∙ sym (find-right k (listing l) e (listing r) s.below h))
+      (λ h. get_find l s.before ∙ sym (find_left k (listing l) e (listing r) h s.above))
+      (λ h. get_find r s.after ∙ sym (find_right k (listing l) e (listing r) s.below h))
       (λ h. sym (find_here k (listing l) e (listing r) s.below h))
 
-  has-get : (t : Tree) → has k t ≡ is_some (get k t)
+  has_get : (t : Tree) → has k t ≡ is_some (get k t)
   unfolding has get
-  has-get leaf = refl
-  has-get (node p c l e r) =
-      compared₂ (λ (b : Bool) (o : Option Entry). b ≡ is_some o) k e.key (λ h. has-get l) (λ h. has-get r) (λ h. refl)
+  has_get leaf = refl
+  has_get (node p c l e r) =
+      compared₂ (λ (b : Bool) (o : Option Entry). b ≡ is_some o) k e.key (λ h. has_get l) (λ h. has_get r) (λ h. refl)
 
-  pub has-find : (t : Tree) → Ascending (listing t) → has k t ≡ is_some (find k (listing t))
-  has-find t a = has-get t ∙ ap is_some (get-find t a)
+  pub has_find : (t : Tree) → Ascending (listing t) → has k t ≡ is_some (find k (listing t))
+  has_find t a = has_get t ∙ ap is_some (get_find t a)
 
   -- The search path is no longer than the tree is high.
-  pub path-height : (t : Tree) → path k t ≤ height t
+  pub path_height : (t : Tree) → path k t ≤ height t
   unfolding path
-  path-height leaf = omega arith
-  path-height (node p c l e r) =
+  path_height leaf = omega arith
+  path_height (node p c l e r) =
       compared
       (λ (n : ℕ). n ≤ suc (max (height l) (height r)))
       k
       e.key
-      (λ _. omega (arith, path-height l))
-      (λ _. omega (arith, path-height r))
+      (λ _. omega (arith, path_height l))
+      (λ _. omega (arith, path_height r))
       (λ _. omega arith)
 
 pub first_append : (xs : List Entry) (e : Entry) (ys : List Entry) → first_of (xs ++ (e ∷ ys)) ≡ or_else (first_of xs) e

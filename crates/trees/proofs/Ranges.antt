@@ -130,9 +130,9 @@ module _ (p q : ℕ → Bool) where
   abbrev two : Entry → Bool
   two e = p e.key && q e.key
 
-  first-within : Down q → (xs : List Entry) → Ascending xs → first_of (keep two xs) ≡ within q (first_of (keep (keyed p) xs))
-  first-within d [] a = refl
-  first-within d (x ∷ xs) a = go (p x.key) (q x.key) refl (first-within d xs a.1)
+  first_within : Down q → (xs : List Entry) → Ascending xs → first_of (keep two xs) ≡ within q (first_of (keep (keyed p) xs))
+  first_within d [] a = refl
+  first_within d (x ∷ xs) a = go (p x.key) (q x.key) refl (first_within d xs a.1)
     where
       none_left : (xs : List Entry) → Above x.key xs → q x.key ≡ false → first_of (keep two xs) ≡ none
       none_left [] a n = refl
@@ -154,14 +154,14 @@ module _ (p q : ℕ → Bool) where
   Past k none = Unit {0}
   Past k (some e) = k < e.key
 
-  last-past : (k : ℕ) (xs : List Entry) → Above k xs → Past k (last_of (keep (keyed q) xs))
-  last-past k [] a = tt
-  last-past k (x ∷ xs) a =
+  last_past : (k : ℕ) (xs : List Entry) → Above k xs → Past k (last_of (keep (keyed q) xs))
+  last_past k [] a = tt
+  last_past k (x ∷ xs) a =
       fork
       (λ (ys : List Entry). Past k (last_of ys))
       (q x.key)
-      (λ _. past_or (last_of (keep (keyed q) xs)) (last-past k xs a.1))
-      (λ _. last-past k xs a.1)
+      (λ _. past_or (last_of (keep (keyed q) xs)) (last_past k xs a.1))
+      (λ _. last_past k xs a.1)
     where
       past_or : (o : Option Entry) → Past k o → Past k (or_else o x)
       past_or none h = a.0
@@ -170,7 +170,7 @@ module _ (p q : ℕ → Bool) where
   last_within : Up p → (xs : List Entry) → Ascending xs → last_of (keep two xs) ≡ within p (last_of (keep (keyed q) xs))
   last_within u [] a = refl
   last_within u (x ∷ xs) a =
-      go (p x.key) (q x.key) refl (keep (keyed q) xs) (last-past x.key xs a.0) (last_within u xs a.1)
+      go (p x.key) (q x.key) refl (keep (keyed q) xs) (last_past x.key xs a.0) (last_within u xs a.1)
     where
       found : (o : Option Entry) → p x.key ≡ true → Past x.key o → or_else (within p o) x ≡ within p (or_else o x)
       found none e h = rw e
@@ -191,7 +191,7 @@ module _ (p q : ℕ → Bool) where
 pub step-next : (d : End) (w : Range) (t : Tree) → Ascending (listing t) → step d w t ≡ next d w (listing t)
 step-next front w t a =
     ap (within (before_back w)) (least_first (after_front w) (after_front_up w) t a) ∙
-    sym (first-within (after_front w) (before_back w) (before_back_down w) (listing t) a)
+    sym (first_within (after_front w) (before_back w) (before_back_down w) (listing t) a)
 step-next back w t a =
     ap (within (after_front w)) (greatest-last (before_back w) (before_back_down w) t a) ∙
     sym (last_within (after_front w) (before_back w) (after_front_up w) (listing t) a)

@@ -11,7 +11,7 @@ use Rattle.trees.specs.Lookup.{has}
 use Rattle.trees.specs.Remove.{fuse, del, remove}
 use Rattle.trees.proofs.RemoveCases.{RemoveBalance, Left, Right, Fuse, fused, Del, deleted}
 use Rattle.trees.proofs.Listings.{split, cut_left, cut_right, cut_here, ascending_cut}
-use Rattle.trees.proofs.InsertLaws.{listing-Balance, listing-paint, Near, red_root, well, levels_below, parts, not_red, near_parts, rb_risen, rb_balance-left, rb_balance-right, rb_paint, root_paint}
+use Rattle.trees.proofs.InsertLaws.{listing-Balance, listing-paint, Near, red_root, well, levels_below, parts, not_red, near_parts, rb_risen, rb_balance_left, rb_balance_right, rb_paint, root_paint}
 
 -- The listing.
 
@@ -68,16 +68,16 @@ module _ (k : ℕ) where
       let s = split (listing l) e (listing r) a in
       ap (λ (x : List Entry). listing l ++ (e ∷ x)) (ih s.after) ∙ sym (cut_right k (listing l) e (listing r) s.below h)
 
-  listing-Del : {t u : Tree} → Del k t u → Ascending (listing t) → listing u ≡ cut k (listing t)
-  listing-Del Del.none a = refl
-  listing-Del (Del.here {l = l} {r = r} {e = e} h g) a =
+  listing_Del : {t u : Tree} → Del k t u → Ascending (listing t) → listing u ≡ cut k (listing t)
+  listing_Del Del.none a = refl
+  listing_Del (Del.here {l = l} {r = r} {e = e} h g) a =
       listing-Fuse g ∙ sym (cut_here k (listing l) e (listing r) (split (listing l) e (listing r) a).below h)
-  listing-Del (Del.left {l = l} {r = r} {d = d} {e = e} h b g) o = cut_in_left l r e d h o (listing-Del g)
-  listing-Del (Del.left_black {q = q} {a = a} {b = b} {r = r} {d = d} {e = e} {x = x} h g s) o =
-      listing-Left s ∙ cut_in_left (node q black a x b) r e d h o (listing-Del g)
-  listing-Del (Del.right {l = l} {r = r} {d = d} {e = e} h b g) o = cut_in_right l r e d h o (listing-Del g)
-  listing-Del (Del.right_black {q = q} {a = a} {b = b} {l = l} {d = d} {e = e} {x = x} h g s) o =
-      listing-Right s ∙ cut_in_right l (node q black a x b) e d h o (listing-Del g)
+  listing_Del (Del.left {l = l} {r = r} {d = d} {e = e} h b g) o = cut_in_left l r e d h o (listing_Del g)
+  listing_Del (Del.left_black {q = q} {a = a} {b = b} {r = r} {d = d} {e = e} {x = x} h g s) o =
+      listing-Left s ∙ cut_in_left (node q black a x b) r e d h o (listing_Del g)
+  listing_Del (Del.right {l = l} {r = r} {d = d} {e = e} h b g) o = cut_in_right l r e d h o (listing_Del g)
+  listing_Del (Del.right_black {q = q} {a = a} {b = b} {l = l} {d = d} {e = e} {x = x} h g s) o =
+      listing-Right s ∙ cut_in_right l (node q black a x b) e d h o (listing_Del g)
 
   -- A key that the descent does not find is not in the listing.
   cut_absent : (t : Tree) → has k t ≡ false → Ascending (listing t) → cut k (listing t) ≡ listing t
@@ -95,13 +95,13 @@ module _ (k : ℕ) where
       n
 
   -- The listing of `remove` is `cut`.
-  pub listing-remove : (t : Tree) → Ascending (listing t) → listing (remove k t) ≡ cut k (listing t)
+  pub listing_remove : (t : Tree) → Ascending (listing t) → listing (remove k t) ≡ cut k (listing t)
   unfolding remove
-  listing-remove t a =
+  listing_remove t a =
       fork
       (λ (u : Tree). listing u ≡ cut k (listing t))
       (has k t)
-      (λ h. listing-paint black (del k t) ∙ listing-Del (deleted k t) a)
+      (λ h. listing-paint black (del k t) ∙ listing_Del (deleted k t) a)
       (λ h. sym (cut_absent t h a))
 
 -- The shape.
@@ -110,13 +110,13 @@ pub near_not_red : {n : ℕ} {t : Tree} → is_red t ≡ false → Near n t → 
 near_not_red h (red_root a b) = absurd (true≢false h)
 near_not_red h (well a) = a
 
-rb_remove-balance-left : {n : ℕ} {p : Place} {l r u : Tree} {e : Entry} → RemoveBalance (node p black l e r) u → Near n l → Rb n r → Rb (suc n) u
-rb_remove-balance-left RemoveBalance.both a b = rb_risen (near_parts a) (parts b)
-rb_remove-balance-left (RemoveBalance.plain g) a b = rb_balance-left g a b
+rb_remove_balance-left : {n : ℕ} {p : Place} {l r u : Tree} {e : Entry} → RemoveBalance (node p black l e r) u → Near n l → Rb n r → Rb (suc n) u
+rb_remove_balance-left RemoveBalance.both a b = rb_risen (near_parts a) (parts b)
+rb_remove_balance-left (RemoveBalance.plain g) a b = rb_balance_left g a b
 
-rb_remove-balance-right : {n : ℕ} {p : Place} {l r u : Tree} {e : Entry} → RemoveBalance (node p black l e r) u → Rb n l → Near n r → Rb (suc n) u
-rb_remove-balance-right RemoveBalance.both a b = rb_risen (parts a) (near_parts b)
-rb_remove-balance-right (RemoveBalance.plain g) a b = rb_balance-right g a b
+rb_remove_balance-right : {n : ℕ} {p : Place} {l r u : Tree} {e : Entry} → RemoveBalance (node p black l e r) u → Rb n l → Near n r → Rb (suc n) u
+rb_remove_balance-right RemoveBalance.both a b = rb_risen (parts a) (near_parts b)
+rb_remove_balance-right (RemoveBalance.plain g) a b = rb_balance_right g a b
 
 painted_red : {n : ℕ} {t : Tree} → is_red t ≡ false → Rb (suc n) t → Near n (paint red t)
 painted_red h (rb_red i j a b) = absurd (true≢false h)
@@ -140,19 +140,19 @@ never_right h i (rb_black a b) = true≢false h
 pub rb_Left : {n : ℕ} {l r u : Tree} {e : Entry} → Left l e r u → Near n l → Rb (suc n) r → Near (suc n) u × (is_red r ≡ false → Rb (suc n) u)
 rb_Left Left.red_left a c = let f = near_parts a in let b = rb_black f.0 f.1 in (red_root b c, λ j. rb_red refl j b c)
 rb_Left (Left.black_right h g) a c =
-    let f = parts c in let d = rb_remove-balance-right g (near_not_red h a) (red_root f.0 f.1) in (well d, λ _. d)
+    let f = parts c in let d = rb_remove_balance-right g (near_not_red h a) (red_root f.0 f.1) in (well d, λ _. d)
 rb_Left (Left.red_right h g) a c =
     let f = parts c in let b = parts f.0 in
-    (red_root (rb_black (near_not_red h a) b.0) (rb_remove-balance-right g b.1 (painted_red (not_red c).1 f.1)), λ k. absurd (true≢false k))
+    (red_root (rb_black (near_not_red h a) b.0) (rb_remove_balance-right g b.1 (painted_red (not_red c).1 f.1)), λ k. absurd (true≢false k))
 rb_Left (Left.stuck h i) a c = absurd (never_left h i c)
 
 pub rb_Right : {n : ℕ} {l r u : Tree} {e : Entry} → Right l e r u → Rb (suc n) l → Near n r → Near (suc n) u × (is_red l ≡ false → Rb (suc n) u)
 rb_Right Right.red_right c a = let f = near_parts a in let b = rb_black f.0 f.1 in (red_root c b, λ j. rb_red j refl c b)
 rb_Right (Right.black_left h g) c a =
-    let f = parts c in let d = rb_remove-balance-left g (red_root f.0 f.1) (near_not_red h a) in (well d, λ _. d)
+    let f = parts c in let d = rb_remove_balance-left g (red_root f.0 f.1) (near_not_red h a) in (well d, λ _. d)
 rb_Right (Right.red_left h g) c a =
     let f = parts c in let b = parts f.1 in
-    (red_root (rb_remove-balance-left g (painted_red (not_red c).0 f.0) b.0) (rb_black b.1 (near_not_red h a)), λ k. absurd (true≢false k))
+    (red_root (rb_remove_balance-left g (painted_red (not_red c).0 f.0) b.0) (rb_black b.1 (near_not_red h a)), λ k. absurd (true≢false k))
 rb_Right (Right.stuck h i) c a = absurd (never_right h i c)
 
 rb_copy : {n : ℕ} {t : Tree} → Rb n t → Rb n (copy t)
@@ -207,15 +207,15 @@ after (rb_black a b) g = g.0
 
 -- Beside a black child, which is one level short after `del`.
 module _ {q : Place} {i j : Tree} {x : Entry} where
-  after-left : {n : ℕ} {d r u : Tree} {e : Entry} → Left d e r u → (c : Rb n (node q black i x j)) → After c d → Rb n r →
+  after_left : {n : ℕ} {d r u : Tree} {e : Entry} → Left d e r u → (c : Rb n (node q black i x j)) → After c d → Rb n r →
       Near n u × (is_red r ≡ false → Rb n u)
   unfolding After
-  after-left s (rb_black a b) g c = rb_Left s g c
+  after_left s (rb_black a b) g c = rb_Left s g c
 
-  after-right : {n : ℕ} {d l u : Tree} {e : Entry} → Right l e d u → (c : Rb n (node q black i x j)) → After c d → Rb n l →
+  after_right : {n : ℕ} {d l u : Tree} {e : Entry} → Right l e d u → (c : Rb n (node q black i x j)) → After c d → Rb n l →
       Near n u × (is_red l ≡ false → Rb n u)
   unfolding After
-  after-right s (rb_black a b) g c = rb_Right s c g
+  after_right s (rb_black a b) g c = rb_Right s c g
 
 module _ {k : ℕ} where
   leaf_after : {n : ℕ} {t u : Tree} → Rb n t → is_black t ≡ false → is_red t ≡ false → Del k t u → is_red u ≡ false
@@ -231,12 +231,12 @@ module _ {k : ℕ} where
       let b = parts a in let f = after_not_black b.0 q (rb_Del g b.0) in
       after a (red_root f b.1, λ i j. rb_red (leaf_after b.0 q i g) j f b.1)
   rb_Del (Del.left_black h g s) a =
-      let b = parts a in let f = after-left s b.0 (rb_Del g b.0) b.1 in after a (f.0, λ _ j. f.1 j)
+      let b = parts a in let f = after_left s b.0 (rb_Del g b.0) b.1 in after a (f.0, λ _ j. f.1 j)
   rb_Del (Del.right h q g) a =
       let b = parts a in let f = after_not_black b.1 q (rb_Del g b.1) in
       after a (red_root b.0 f, λ i j. rb_red i (leaf_after b.1 q j g) b.0 f)
   rb_Del (Del.right_black h g s) a =
-      let b = parts a in let f = after-right s b.1 (rb_Del g b.1) b.0 in after a (f.0, λ i _. f.1 i)
+      let b = parts a in let f = after_right s b.1 (rb_Del g b.1) b.0 in after a (f.0, λ i _. f.1 i)
 
 near_after : {n : ℕ} {t u : Tree} (a : Rb n t) → After a u → (m : ℕ) × Near m u
 unfolding After
@@ -255,7 +255,7 @@ fine_remove k t g =
     (λ h. let s = rb_paint (near_after g.shape (rb_Del (deleted k t) g.shape)).1 in (root_paint (del k t), s.0, s.1))
     (λ h. (g.root, g.blacks, g.shape)) in
     record {
-      ordered = rw (listing-remove k t g.ordered) (ascending_cut k (listing t) g.ordered);
+      ordered = rw (listing_remove k t g.ordered) (ascending_cut k (listing t) g.ordered);
       root = shaped.0;
       blacks = shaped.1;
       shape = shaped.2;

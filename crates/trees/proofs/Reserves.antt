@@ -10,7 +10,7 @@ use Rattle.trees.specs.Shape.{Fine}
 use Rattle.trees.specs.Lookup.{has}
 use Rattle.trees.specs.Insert.{insert}
 use Rattle.trees.specs.Remove.{remove}
-use Rattle.trees.proofs.Lookups.{path-height}
+use Rattle.trees.proofs.Lookups.{path_height}
 use Rattle.trees.proofs.Low.{height-H}
 use Rattle.trees.proofs.InsertMade.{made-insert}
 use Rattle.trees.proofs.RemoveMade.{made-remove}
@@ -23,7 +23,7 @@ at_most_one false = omega arith
 module _ (t : Tree) (g : Fine t) (z : made t ≡ 0) (h : size t < 2 ^ 32 - 1) where
   pub reserve_insert : (x : Entry) → made (insert x t) ≤ insert_reserve (size t)
   reserve_insert x =
-      omega (arith, made-insert x t g.shape z, path-height x.key t, height-H t g h, at_most_one (has x.key t))
+      omega (arith, made-insert x t g.shape z, path_height x.key t, height-H t g h, at_most_one (has x.key t))
 
   pub reserve_remove : (k : ℕ) → has k t ≡ true → made (remove k t) ≤ remove_reserve (size t)
   reserve_remove k i = omega (arith, made-remove k t i z, height-H t g h)

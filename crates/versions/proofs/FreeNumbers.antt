@@ -46,8 +46,8 @@ module _ {ws w w' : List ℕ} {i h r : ℕ} (S : Sound ws) (e : nodes w ≡ node
   same : k.n ≡ nodes ws
   same = sym k.owned.shaped.n_is ∙ e
 
-  left-idles : idles (nodes ws) w' ≡ r + idles (nodes ws) w
-  left-idles =
+  left_idles : idles (nodes ws) w' ≡ r + idles (nodes ws) w
+  left_idles =
       let a = left.more in
       rw (x.words_are, x.freed_is) (rw same at a)
 
@@ -56,10 +56,10 @@ module _ {ws w w' : List ℕ} {i h r : ℕ} (S : Sound ws) (e : nodes w ≡ node
 
   module _ (j : idles (nodes ws) w ≡ idles (nodes ws) ws) {f : ℕ} (F : FreeIs ws f) where
     pub released_free : FreeIs w' (f + r)
-    released_free = balanced 0 r S F released_nodes (omega (arith, left-idles)) (omega arith)
+    released_free = balanced 0 r S F released_nodes (omega (arith, left_idles)) (omega arith)
 
     pub released_fits : Fits w32 (f + r)
     released_fits =
         record {
-          fits = omega (arith, left-idles, idles_few (nodes ws) w', sound_idles ws S, F.is S, S.trees.limits.n_high);
+          fits = omega (arith, left_idles, idles_few (nodes ws) w', sound_idles ws S, F.is S, S.trees.limits.n_high);
         }

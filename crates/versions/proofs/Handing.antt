@@ -13,7 +13,7 @@ use Rattle.words.specs.Sound.{Sound}
 use Rattle.words.specs.Owned.{Live, Sized, idles}
 use Rattle.words.specs.Model.{raising, slotting}
 use Rattle.words.proofs.Changes.{Outside, outside_nodes}
-use Rattle.words.proofs.Recounting.{raising_outside, raising-idles}
+use Rattle.words.proofs.Recounting.{raising_outside, raising_idles}
 use Rattle.words.proofs.Slotting.{slotting_in, slot_reads, take_owned}
 use Rattle.words.proofs.SoundOwned.{sound_owned}
 use Rattle.words.proofs.Bounds.{version_low}
@@ -54,8 +54,8 @@ module _ {ws : List ℕ} {o : FreeSlot} (S : Sound ws) (l : LowestIs ws o) where
     pub new_told : {w : List ℕ} → w ≡ slotting n ws q 0 0 → Outcome call.Call.new ws (call.Answer.slot q) w
     new_told {w} z = rw (z ∙ ap (λ (m : ℕ). slotting m ws q 0 0) e) (new_outcome S lowest)
 
-    pub new-free : {w : List ℕ} {m : ℕ} → FreeIs ws m → w ≡ slotting n ws q 0 0 → FreeIs w m
-    new-free F = slotted_free q 0 0 S F e
+    pub new_free : {w : List ℕ} {m : ℕ} → FreeIs ws m → w ≡ slotting n ws q 0 0 → FreeIs w m
+    new_free F = slotted_free q 0 0 S F e
 
 module _ {ws : List ℕ} {p : Parent} (k : Parents ws p) where
   pub share_raisable : nodes.Raisable ws p.root
@@ -101,7 +101,7 @@ module _ {ws : List ℕ} {p : Parent} (k : Parents ws p) where
       k.sound
       F
       (slotted_nodes (nodes ws) up p.out p.root p.size ∙ outside_nodes (nodes ws) ws up raised)
-      (omega (arith, slotted_idles (nodes ws) up p.out p.root p.size, raising-idles (nodes ws) ws long p.root live))
+      (omega (arith, slotted_idles (nodes ws) up p.out p.root p.size, raising_idles (nodes ws) ws long p.root live))
       (omega arith))
 
 module _ {ws : List ℕ} {s : ℕ} {x : Opened} (S : Sound ws) (g : Opens ws s x) where

@@ -17,7 +17,7 @@ use Rattle.words.specs.Fresh.{relabel, was_free}
 use Rattle.words.specs.Commit.{frontier, raising_all, Built, building}
 use Rattle.words.proofs.Counts.{occ-first, occ_more, occ_append}
 use Rattle.words.proofs.Changes.{only_agree, only_count}
-use Rattle.words.proofs.Making.{head_in, head-idle, making_owned, making_tree, making_reads, making-idles, making_outside}
+use Rattle.words.proofs.Making.{head_in, head_idle, making_owned, making_tree, making_reads, making_idles, making_outside}
 use Rattle.words.proofs.Making as making
 use Rattle.words.proofs.Countups.{owned_occ, relabel-same, all_kept, Shares, Grows, grows_refl, grows_trans, raising_all_owned}
 
@@ -71,7 +71,7 @@ module _ (Valid : ℕ → Tree → ℕ → Type 0) (n v : ℕ) where
   making_grows c l e r ws R o some =
       let m = making.made Valid n v c l e r ws R o some in
       let h = head_in Valid n v c l e r ws R o some in
-      let z = head-idle Valid n v c l e r ws R o some in
+      let z = head_idle Valid n v c l e r ws R o some in
       let other : (j : ℕ) → Live n ws j → j ≡ head ws → ⊥ = λ j k q. let x = ap (count ws) q in omega (arith, k.2) in
       record {
         live = λ j k. (k.0, k.1, omega (arith, only_count n (head ws) ws (making ws c l e r) m.only h.0 h.1 j k.0 (other j k), k.2));
@@ -106,7 +106,7 @@ module _ (Valid : ℕ → Tree → ℕ → Type 0) (n v : ℕ) where
         relabel isNew (node (kept top) c x.tree e y.tree) ≡ node fresh c l e r
     over_planned isNew k f =
         let h = head_in Valid n v c a.link e b.link b.words R sides_owned sides_room in
-        let z = head-idle Valid n v c a.link e b.link b.words R sides_owned sides_room in
+        let z = head_idle Valid n v c a.link e b.link b.words R sides_owned sides_room in
         let new = f top h.0 h.1 (idle_back n ws b.words sides_grow top h.0 h.1 z) in
         rw (
           new,
@@ -121,7 +121,7 @@ module _ (Valid : ℕ → Tree → ℕ → Type 0) (n v : ℕ) where
           tree = node (kept top) c x.tree e y.tree;
           reads = making_tree Valid n v c a.link e b.link b.words R sides_owned sides_room x.tree y.tree left_reads y.reads;
           planned = over_planned;
-          taken = omega (arith, x.taken, y.taken, making-idles Valid n v c a.link e b.link b.words R sides_owned sides_room);
+          taken = omega (arith, x.taken, y.taken, making_idles Valid n v c a.link e b.link b.words R sides_owned sides_room);
           grows = grows_trans n ws b.words over sides_grow (making_grows c a.link e b.link b.words R sides_owned sides_room);
           besides = λ p u h q.
               making_reads

@@ -19,7 +19,7 @@ use Rattle.words.specs.Commit.{frontier, raising_all}
 use Rattle.words.proofs.Counts.{same_ne, occ_append}
 use Rattle.words.proofs.Holding.{frame_all}
 use Rattle.words.proofs.Changes.{Outside, outside_refl, outside_trans}
-use Rattle.words.proofs.Recounting.{owned_long, raising_owned, raising-idles, raising_outside, raising_agree, raising-count}
+use Rattle.words.proofs.Recounting.{owned_long, raising_owned, raising_idles, raising_outside, raising_agree, raising_count}
 
 -- Ownership looks at how often a link is pending, not at the order.
 pub owned_occ : (Valid : ℕ → Tree → ℕ → Type 0) (n v : ℕ) (ws P P' : List ℕ) → ((x : ℕ) → occ x P' ≡ occ x P) → Owned Valid n v ws P →
@@ -98,19 +98,19 @@ module _ (n : ℕ) (ws : List ℕ) (long : node_words * n + header_words ≤ len
       go : Dec (i ≡ j) → (i ≡ 0) ⊎ Live n ws i → Live n ws j
       go (yes e) (inl z) = absurd (omega (arith, m.0))
       go (yes e) (inr k) = subst (λ (x : ℕ). Live n ws x) e k
-      go (no f) k = (m.0, m.1, omega (arith, raising-count n ws long i link_high j m.0 m.1, same_ne i j f, m.2))
+      go (no f) k = (m.0, m.1, omega (arith, raising_count n ws long i link_high j m.0 m.1, same_ne i j f, m.2))
 
   raised_one : Raised n ws (raising ws i)
   raised_one =
       record {
         grows = record {
-          live = λ j m. (m.0, m.1, omega (arith, raising-count n ws long i link_high j m.0 m.1, m.2));
+          live = λ j m. (m.0, m.1, omega (arith, raising_count n ws long i link_high j m.0 m.1, m.2));
           agree = λ j m. raising_agree n ws long i link_high j m.0 m.1;
           outside = raising_outside n ws long i link_high;
         };
         back = raised_back;
         reads = frame_all n ws (raising ws i) (raising_agree n ws long i link_high);
-        idle = raising-idles n ws long i l;
+        idle = raising_idles n ws long i l;
       }
 
 module _ (Valid : ℕ → Tree → ℕ → Type 0) (n v : ℕ) where

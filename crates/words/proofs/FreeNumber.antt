@@ -36,7 +36,7 @@ free-idles Valid n v ws P o = chain_idles n ws o.free o.chain o.frees
 
 module _ (ws : List ℕ) (S : Sound ws) where
   pub sound_idles : free_number S ≡ idles (nodes ws) ws
-  sound_idles = chain_idles (nodes ws) ws S.books.free S.books.free-listed (sound_frees ws S)
+  sound_idles = chain_idles (nodes ws) ws S.books.free S.books.free_listed (sound_frees ws S)
 
   -- "the free nodes are exactly the nodes not reachable": together they are N.
   pub free_reached : free_number S + length S.books.reached ≡ nodes ws
@@ -45,7 +45,7 @@ module _ (ws : List ℕ) (S : Sound ws) where
       let F = S.books.free in
       let R = S.books.reached in
       let a =
-      length_sum 1 (nodes ws) F (λ x h. let b = chain_in (nodes ws) ws (head ws) F x S.books.free-listed h in (b.0, omega (arith, b.1))) in
+      length_sum 1 (nodes ws) F (λ x h. let b = chain_in (nodes ws) ws (head ws) F x S.books.free_listed h in (b.0, omega (arith, b.1))) in
       let b =
       length_sum 1 (nodes ws) R (λ x h. let b = reached_in ws S (S.books.all_reached.listed x h) in (b.0, omega (arith, b.1))) in
       omega (arith, sum_ones (times F) (times R) 1 (nodes ws) (λ j p q. one j p (omega arith)))
@@ -58,9 +58,9 @@ module _ (ws : List ℕ) (S : Sound ws) where
           (use_or_free ws S j p q)
 
   -- Any list of the reachable nodes, each once, has that length.
-  pub free-number : (xs : List ℕ) → AllReached ws xs → free_number S + length xs ≡ nodes ws
+  pub free_number_is : (xs : List ℕ) → AllReached ws xs → free_number S + length xs ≡ nodes ws
   unfolding times
-  free-number xs r =
+  free_number_is xs r =
       let R = S.books.reached in
       let inside : (x : ℕ) → Reached ws x → (1 ≤ x) × (x < 1 + nodes ws) = λ x q. ((reached_in ws S q).0, omega (arith, (reached_in ws S q).1)) in
       let a = length_sum 1 (nodes ws) xs (λ x h. inside x (r.listed x h)) in
@@ -75,8 +75,8 @@ module _ (ws : List ℕ) (S : Sound ws) where
 
 -- Claims made from a `Sound` do not depend on its witnesses.
 module _ (ws : List ℕ) (S S' : Sound ws) where
-  pub same-free : free_number S ≡ free_number S'
-  same-free = sound_idles ws S ∙ sym (sound_idles ws S')
+  pub same_free : free_number S ≡ free_number S'
+  same_free = sound_idles ws S ∙ sym (sound_idles ws S')
 
   pub same_tree : (s : ℕ) (h h' : Held ws s) → S.trees.tree s h ≡ S'.trees.tree s h'
   same_tree s h h' =
@@ -91,7 +91,7 @@ module _ (ws : List ℕ) (S S' : Sound ws) where
 
   -- One free list, in one order: it is read from the head.
   pub same_list : S.books.free ≡ S'.books.free
-  same_list = chain_same S.books.free S'.books.free (head ws) S.books.free-listed S'.books.free-listed
+  same_list = chain_same S.books.free S'.books.free (head ws) S.books.free_listed S'.books.free_listed
     where
       chain_same : (F G : List ℕ) (i : ℕ) → Chain (nodes ws) ws i F → Chain (nodes ws) ws i G → F ≡ G
       chain_same [] [] i c d = refl

@@ -13,7 +13,7 @@ use Rattle.words.specs.Sound.{Chain}
 use Rattle.words.specs.Owned.{idle, kids, held, names, Live, Version, Owned}
 use Rattle.words.proofs.Counts.{same_eq, same_ne, occ-first, occ-rest, occ_more}
 use Rattle.words.proofs.Holding.{frame, agree_left, reads_left, reads_right}
-use Rattle.words.proofs.OwnedLaws.{when_pos, when_zero, idle_pos, idle_zero, chain_kept, kids-count, held-count, left-kids, right-kids, root_held, live_left, live_right, live_root}
+use Rattle.words.proofs.OwnedLaws.{when_pos, when_zero, idle_pos, idle_zero, chain_kept, kids_count, held_count, left_kids, right_kids, root_held, live_left, live_right, live_root}
 use Rattle.words.proofs.Changes.{outside_root, outside_size, outside_shaped, Only, only_outside, only_agree, only_count, names_change, Freed}
 use Rattle.words.proofs.Recounting.{pending_first}
 
@@ -29,8 +29,8 @@ module _ (Valid : ℕ → Tree → ℕ → Type 0) (n v i : ℕ) (ws ws' P : Lis
       (λ l. inr (
         l,
         λ q.
-            let a = kids-count Valid n v ws P o i j low high e.0.0 e.0.1 in
-            let b = left-kids Valid n v ws P o j e.0.2 in
+            let a = kids_count Valid n v ws P o i j low high e.0.0 e.0.1 in
+            let b = left_kids Valid n v ws P o j e.0.2 in
             let c = ap (λ (z : ℕ). kids ws z j) q in
             omega arith,
       ))
@@ -43,8 +43,8 @@ module _ (Valid : ℕ → Tree → ℕ → Type 0) (n v i : ℕ) (ws ws' P : Lis
       (λ l. inr (
         l,
         λ q.
-            let a = kids-count Valid n v ws P o i j low high e.0.0 e.0.1 in
-            let b = right-kids Valid n v ws P o j e.0.2 in
+            let a = kids_count Valid n v ws P o i j low high e.0.0 e.0.1 in
+            let b = right_kids Valid n v ws P o j e.0.2 in
             let c = ap (λ (z : ℕ). kids ws z j) q in
             omega arith,
       ))
@@ -57,7 +57,7 @@ module _ (Valid : ℕ → Tree → ℕ → Type 0) (n v i : ℕ) (ws ws' P : Lis
       (λ l. inr (
         l,
         λ q.
-            let a = held-count Valid n v ws P o i s low high h in
+            let a = held_count Valid n v ws P o i s low high h in
             let b = root_held Valid n v ws P o s in
             let c = ap (λ (z : ℕ). held n ws z s) q in
             omega arith,
@@ -116,8 +116,8 @@ module _ (Valid : ℕ → Tree → ℕ → Type 0) (n v i : ℕ) (ws ws' R : Lis
           let g = same_ne i x (λ e. f (sym e)) in
           omega arith
 
-  freed-idle : occ i o.free ≡ 0
-  freed-idle = o.frees i low high ∙ idle_pos (count ws i) (omega arith)
+  freed_idle : occ i o.free ≡ 0
+  freed_idle = o.frees i low high ∙ idle_pos (count ws i) (omega arith)
 
   freed_frees : (x : ℕ) → 1 ≤ x → x ≤ n → occ x (i ∷ o.free) ≡ idle (count ws' x)
   freed_frees x p q = go (ℕ_discrete x i) (o.frees x p q)
@@ -127,7 +127,7 @@ module _ (Valid : ℕ → Tree → ℕ → Type 0) (n v i : ℕ) (ws ws' R : Lis
           let a = occ-first i o.free in
           let b = ap (λ (z : ℕ). occ z (i ∷ o.free)) e in
           let c = idle_zero (count ws' x) (ap (count ws') e ∙ u.count_is) in
-          let z = freed-idle in
+          let z = freed_idle in
           omega arith
       go (no f) h =
           let a = occ-rest i x o.free f in
@@ -135,7 +135,7 @@ module _ (Valid : ℕ → Tree → ℕ → Type 0) (n v i : ℕ) (ws ws' R : Lis
           omega arith
 
   not_free : (f : ℕ) → 1 ≤ occ f o.free → f ≡ i → ⊥
-  not_free f m e = let a = ap (λ (z : ℕ). occ z o.free) e in let z = freed-idle in omega arith
+  not_free f m e = let a = ap (λ (z : ℕ). occ z o.free) e in let z = freed_idle in omega arith
 
   freed_chain : Chain n ws' (head ws') (i ∷ o.free)
   freed_chain = (

@@ -116,19 +116,19 @@ module _ (Valid : ℕ → Tree → ℕ → Type 0) (n v i : ℕ) (c : Color) (l 
       t
       (⊎_elim inl (λ a. inr (a, λ z. let y = ap (count ws) z in omega (arith, was_idle.1))) (live_pending Valid n v ws (l ∷ (r ∷ R)) o p h))
 
-  left-held : 1 ≤ occ l (l ∷ (r ∷ R))
-  left-held = omega (arith, occ-first l (r ∷ R))
+  left_held : 1 ≤ occ l (l ∷ (r ∷ R))
+  left_held = omega (arith, occ-first l (r ∷ R))
 
-  right-held : 1 ≤ occ r (l ∷ (r ∷ R))
-  right-held = omega (arith, occ-first r R, occ_more l r (r ∷ R))
+  right_held : 1 ≤ occ r (l ∷ (r ∷ R))
+  right_held = omega (arith, occ-first r R, occ_more l r (r ∷ R))
 
   -- The new node holds the tree of its parts.
   made_tree : (tl tr : Tree) → Reads n ws l tl → Reads n ws r tr → Reads n ws' i (node (kept i) c tl e tr)
   made_tree tl tr hl hr = (
     refl,
     record { low = low; high = high; color_is = u.color_is; entry_is = u.entry_is },
-    rw u.left_is (reads_before l tl left-held hl),
-    rw u.right_is (reads_before r tr right-held hr),
+    rw u.left_is (reads_before l tl left_held hl),
+    rw u.right_is (reads_before r tr right_held hr),
   )
 
   made_trees : (j : ℕ) → Live n ws' j → (t : Tree) × Reads n ws' j t × (height t ≤ suc o.bound)
@@ -136,8 +136,8 @@ module _ (Valid : ℕ → Tree → ℕ → Type 0) (n v i : ℕ) (c : Color) (l 
     where
       go : Dec (j ≡ i) → (t : Tree) × Reads n ws' j t × (height t ≤ suc o.bound)
       go (yes z) =
-          let tl = pending_tree Valid n v ws (l ∷ (r ∷ R)) o l left-held in
-          let tr = pending_tree Valid n v ws (l ∷ (r ∷ R)) o r right-held in
+          let tl = pending_tree Valid n v ws (l ∷ (r ∷ R)) o l left_held in
+          let tr = pending_tree Valid n v ws (l ∷ (r ∷ R)) o r right_held in
           (node (kept i) c tl.0 e tr.0, rw z (made_tree tl.0 tr.0 tl.1 tr.1), omega (arith, tl.2, tr.2))
       go (no f) =
           let t =
@@ -160,9 +160,9 @@ module _ (Valid : ℕ → Tree → ℕ → Type 0) (n v i : ℕ) (c : Color) (l 
 
 -- Where a node is free, the free list begins with one.
 module _ (Valid : ℕ → Tree → ℕ → Type 0) (n v : ℕ) (ws P : List ℕ) (o : Owned Valid n v ws P) where
-  pub first-free : 1 ≤ idles n ws → (F : List ℕ) × (o.free ≡ head ws ∷ F)
+  pub first_free : 1 ≤ idles n ws → (F : List ℕ) × (o.free ≡ head ws ∷ F)
   unfolding idles idle_at occ
-  first-free h = go o.free refl o.chain
+  first_free h = go o.free refl o.chain
     where
       go : (F : List ℕ) → o.free ≡ F → Chain n ws (head ws) F → (G : List ℕ) × (F ≡ head ws ∷ G)
       go [] z c =
@@ -173,10 +173,10 @@ module _ (Valid : ℕ → Tree → ℕ → Type 0) (n v : ℕ) (ws P : List ℕ)
 module _ (Valid : ℕ → Tree → ℕ → Type 0) (n v : ℕ) (c : Color) (l : ℕ) (e : Entry) (r : ℕ) (ws R : List ℕ) (o : Owned Valid n v ws (l ∷ (r ∷ R)))
     (some : 1 ≤ idles n ws) where
   abbrev F : List ℕ
-  F = (first-free Valid n v ws (l ∷ (r ∷ R)) o some).0
+  F = (first_free Valid n v ws (l ∷ (r ∷ R)) o some).0
 
   abbrev taken : o.free ≡ head ws ∷ F
-  taken = (first-free Valid n v ws (l ∷ (r ∷ R)) o some).1
+  taken = (first_free Valid n v ws (l ∷ (r ∷ R)) o some).1
 
   -- The node that is taken: the head of the free list, one of the n, with count 0.
   pub head_in : (1 ≤ head ws) × (head ws ≤ n)
@@ -185,8 +185,8 @@ module _ (Valid : ℕ → Tree → ℕ → Type 0) (n v : ℕ) (c : Color) (l : 
   pub made : Made (head ws) c l e r ws (making ws c l e r)
   made = is_made ws head_in.0 (omega (arith, head_in.1, owned_long Valid n v ws (l ∷ (r ∷ R)) o)) c l e r
 
-  pub head-idle : count ws (head ws) ≡ 0
-  head-idle = (was_idle Valid n v (head ws) c l e r ws (making ws c l e r) R F o made taken).1
+  pub head_idle : count ws (head ws) ≡ 0
+  head_idle = (was_idle Valid n v (head ws) c l e r ws (making ws c l e r) R F o made taken).1
 
   pub making_owned : Owned Valid n v (making ws c l e r) (head ws ∷ R)
   making_owned = made_owned Valid n v (head ws) c l e r ws (making ws c l e r) R F o made taken
@@ -199,9 +199,9 @@ module _ (Valid : ℕ → Tree → ℕ → Type 0) (n v : ℕ) (c : Color) (l : 
   making_reads = reads_before Valid n v (head ws) c l e r ws (making ws c l e r) R F o made taken
 
   -- One free node less.
-  pub making-idles : idles n (making ws c l e r) + 1 ≡ idles n ws
+  pub making_idles : idles n (making ws c l e r) + 1 ≡ idles n ws
   unfolding idles idle_at
-  making-idles =
+  making_idles =
       let ws' = making ws c l e r in
       let h = head_in in
       let z =
@@ -215,7 +215,7 @@ module _ (Valid : ℕ → Tree → ℕ → Type 0) (n v : ℕ) (c : Color) (l : 
       (omega (arith, h.1))
       (λ j p q f. ap idle (only_count n (head ws) ws ws' made.only h.0 h.1 j p f)) in
       let a = idle_pos (count ws' (head ws)) (omega (arith, made.count_is)) in
-      let b = idle_zero (count ws (head ws)) head-idle in
+      let b = idle_zero (count ws (head ws)) head_idle in
       omega arith
 
   -- The frame: only the head of the free list and the words of the node that was taken may change.

@@ -63,17 +63,17 @@ chain_in n ws h (f ∷ F) i c m = go (ℕ_discrete f i) (chain_in n ws (left ws 
 
 module _ (Valid : ℕ → Tree → ℕ → Type 0) (n v : ℕ) (ws P : List ℕ) (o : Owned Valid n v ws P) where
   -- The names of x by node j, by slot s and by P are each among its count.
-  pub kids-count : (x j : ℕ) → 1 ≤ x → x ≤ n → 1 ≤ j → j ≤ n → kids ws x j + occ x P ≤ count ws x
+  pub kids_count : (x j : ℕ) → 1 ≤ x → x ≤ n → 1 ≤ j → j ≤ n → kids ws x j + occ x P ≤ count ws x
   unfolding names
-  kids-count x j p q p' q' = let s = sum_at (kids ws x) 1 n j p' (omega arith) in omega (arith, o.counts x p q)
+  kids_count x j p q p' q' = let s = sum_at (kids ws x) 1 n j p' (omega arith) in omega (arith, o.counts x p q)
 
-  pub held-count : (x s : ℕ) → 1 ≤ x → x ≤ n → s < v → held n ws x s + occ x P ≤ count ws x
+  pub held_count : (x s : ℕ) → 1 ≤ x → x ≤ n → s < v → held n ws x s + occ x P ≤ count ws x
   unfolding names
-  held-count x s p q h = let r = sum_at (held n ws x) 0 v s (omega arith) (omega arith) in omega (arith, o.counts x p q)
+  held_count x s p q h = let r = sum_at (held n ws x) 0 v s (omega arith) (omega arith) in omega (arith, o.counts x p q)
 
-  pub occ-count : (x : ℕ) → 1 ≤ x → x ≤ n → occ x P ≤ count ws x
+  pub occ_count : (x : ℕ) → 1 ≤ x → x ≤ n → occ x P ≤ count ws x
   unfolding names
-  occ-count x p q = omega (arith, o.counts x p q)
+  occ_count x p q = omega (arith, o.counts x p q)
 
   -- At most two names by each node, one by each slot: no count of a sound arena comes near what 32 bits hold.
   pub count_small : (x : ℕ) → 1 ≤ x → x ≤ n → count ws x ≤ n * 2 + v + length P
@@ -85,14 +85,14 @@ module _ (Valid : ℕ → Tree → ℕ → Type 0) (n v : ℕ) (ws P : List ℕ)
       omega (arith, o.counts x p q, occ_le x P)
 
   -- Names of x by a live node's links, by a slot.
-  pub left-kids : (j : ℕ) → 1 ≤ count ws j → 1 ≤ kids ws (left ws j) j
+  pub left_kids : (j : ℕ) → 1 ≤ count ws j → 1 ≤ kids ws (left ws j) j
   unfolding kids
-  left-kids j l =
+  left_kids j l =
       omega (arith, when_pos (count ws j) (same (left ws j) (left ws j) + same (right ws j) (left ws j)) l, same_eq (left ws j) (left ws j) refl)
 
-  pub right-kids : (j : ℕ) → 1 ≤ count ws j → 1 ≤ kids ws (right ws j) j
+  pub right_kids : (j : ℕ) → 1 ≤ count ws j → 1 ≤ kids ws (right ws j) j
   unfolding kids
-  right-kids j l =
+  right_kids j l =
       omega (arith, when_pos (count ws j) (same (left ws j) (right ws j) + same (right ws j) (right ws j)) l, same_eq (right ws j) (right ws j) refl)
 
   pub root_held : (s : ℕ) → 1 ≤ held n ws (slot_root n ws s) s
@@ -104,28 +104,28 @@ module _ (Valid : ℕ → Tree → ℕ → Type 0) (n v : ℕ) (ws P : List ℕ)
   live_left j l =
       ⊎_elim
       inl
-      (λ b. inr (b.0, b.1, omega (arith, kids-count (left ws j) j b.0 b.1 l.0 l.1, left-kids j l.2)))
+      (λ b. inr (b.0, b.1, omega (arith, kids_count (left ws j) j b.0 b.1 l.0 l.1, left_kids j l.2)))
       (reads_left n ws j (o.trees j l).0 l.0 (o.trees j l).1)
 
   pub live_right : (j : ℕ) → Live n ws j → (right ws j ≡ 0) ⊎ Live n ws (right ws j)
   live_right j l =
       ⊎_elim
       inl
-      (λ b. inr (b.0, b.1, omega (arith, kids-count (right ws j) j b.0 b.1 l.0 l.1, right-kids j l.2)))
+      (λ b. inr (b.0, b.1, omega (arith, kids_count (right ws j) j b.0 b.1 l.0 l.1, right_kids j l.2)))
       (reads_right n ws j (o.trees j l).0 l.0 (o.trees j l).1)
 
   pub live_root : (s : ℕ) (t : Tree) → s < v → Reads n ws (slot_root n ws s) t → (slot_root n ws s ≡ 0) ⊎ Live n ws (slot_root n ws s)
   live_root s t h r =
       ⊎_elim
       inl
-      (λ b. inr (b.0, b.1, omega (arith, held-count (slot_root n ws s) s b.0 b.1 h, root_held s)))
+      (λ b. inr (b.0, b.1, omega (arith, held_count (slot_root n ws s) s b.0 b.1 h, root_held s)))
       (reads_link n ws (slot_root n ws s) t r)
 
   pub live_pending : (p : ℕ) → 1 ≤ occ p P → (p ≡ 0) ⊎ Live n ws p
   live_pending zero h = inl refl
   live_pending (suc p) h =
       let b = o.pending (suc p) h in
-      inr (omega arith, b, omega (arith, occ-count (suc p) (omega arith) b))
+      inr (omega arith, b, omega (arith, occ_count (suc p) (omega arith) b))
 
   -- A link that the call holds has a tree.
   pub pending_tree : (p : ℕ) → 1 ≤ occ p P → (t : Tree) × Reads n ws p t × (height t ≤ o.bound)

@@ -230,7 +230,7 @@ module _ (ws : List ℕ) (o : Owned Sized (nodes ws) (slots ws) ws []) where
         all_reached = lives_reached;
         counts = owned_counts;
         free = o.free;
-        free-listed = o.chain;
+        free_listed = o.chain;
         free_once = λ i. free_once i (dec_le 1 (occ i o.free));
         free_unreached = λ i h r. omega (arith, (free_in i h).0, (reached_live r).2);
         unreached_free = λ i p q f. omega (arith, o.frees i p q, idle_zero (count ws i) (not_live i p q f (dec_le 1 (count ws i))));

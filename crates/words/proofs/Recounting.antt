@@ -224,11 +224,11 @@ module _ (n i : ℕ) (ws : List ℕ) (low : 1 ≤ i) (high : i ≤ n) (long : no
   up_agree j p q (no f) = only_agree n i ws raised (count_only i ws low (omega arith) (count ws i + 1)) low high j p f
 
 module _ (n : ℕ) (ws : List ℕ) (long : node_words * n + header_words ≤ length ws) where
-  pub raising-idles : (i : ℕ) → (i ≡ 0) ⊎ Live n ws i → idles n (raising ws i) ≡ idles n ws
+  pub raising_idles : (i : ℕ) → (i ≡ 0) ⊎ Live n ws i → idles n (raising ws i) ≡ idles n ws
   unfolding raising
-  raising-idles zero l = refl
-  raising-idles (suc i) (inl e) = absurd (omega arith)
-  raising-idles (suc i) (inr l) = live_idles n (suc i) ws l.0 l.1 long (count ws (suc i) + 1) (omega arith) l.2
+  raising_idles zero l = refl
+  raising_idles (suc i) (inl e) = absurd (omega arith)
+  raising_idles (suc i) (inr l) = live_idles n (suc i) ws l.0 l.1 long (count ws (suc i) + 1) (omega arith) l.2
 
   pub raising_outside : (i : ℕ) → i ≤ n → Outside n ws (raising ws i)
   unfolding raising
@@ -242,10 +242,10 @@ module _ (n : ℕ) (ws : List ℕ) (long : node_words * n + header_words ≤ len
   raising_agree (suc i) b j p q = up_agree n (suc i) ws (omega arith) b long j p q (ℕ_discrete j (suc i))
 
   -- The count of node i is one more, every other as it was.
-  pub raising-count : (i : ℕ) → i ≤ n → (j : ℕ) → 1 ≤ j → j ≤ n → count (raising ws i) j ≡ count ws j + same i j
+  pub raising_count : (i : ℕ) → i ≤ n → (j : ℕ) → 1 ≤ j → j ≤ n → count (raising ws i) j ≡ count ws j + same i j
   unfolding raising
-  raising-count zero b j p q = omega (arith, same_ne 0 j (λ e. omega arith))
-  raising-count (suc i) b j p q = go (ℕ_discrete j (suc i))
+  raising_count zero b j p q = omega (arith, same_ne 0 j (λ e. omega arith))
+  raising_count (suc i) b j p q = go (ℕ_discrete j (suc i))
     where
       w : List ℕ
       w = with_count ws (suc i) (count ws (suc i) + 1)

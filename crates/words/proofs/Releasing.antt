@@ -17,7 +17,7 @@ use Rattle.words.specs.Owned.{idle, Live, Owned, idle_at, idles, Agree, Kept}
 use Rattle.words.specs.Model.{with_count, freeing, releasing, freed}
 use Rattle.words.proofs.Counts.{occ-first, sum_change}
 use Rattle.words.proofs.Holding.{frame, agree_left, agree_right}
-use Rattle.words.proofs.OwnedLaws.{idle_pos, idle_zero, live_left, live_right, live_pending, occ-count}
+use Rattle.words.proofs.OwnedLaws.{idle_pos, idle_zero, live_left, live_right, live_pending, occ_count}
 use Rattle.words.proofs.Changes.{Outside, outside_refl, outside_trans, Only, only_outside, only_agree, only_count, count_only, count_words, Freed, is_freed}
 use Rattle.words.proofs.Recounting.{owned_long, drop_none, down_owned, live_idles}
 use Rattle.words.proofs.Freeing.{freed_owned}
@@ -74,16 +74,16 @@ module _ (h : ℕ) (ws : List ℕ) where
     unfolding freed
     freed_more m = rw (lt-ltb 1 (count ws (suc i)) m)
 
-    pub releasing-last : count ws (suc i) ≤ 1 →
+    pub releasing_last : count ws (suc i) ≤ 1 →
         releasing (suc h) ws (suc i) ≡ releasing h (releasing h (freeing ws (suc i)) (left ws (suc i))) (right ws (suc i))
     unfolding releasing
-    releasing-last m = rw (le-ltb 1 (count ws (suc i)) m)
+    releasing_last m = rw (le-ltb 1 (count ws (suc i)) m)
 
-    pub freed-last : count ws (suc i) ≤ 1 →
+    pub freed_last : count ws (suc i) ≤ 1 →
         freed (suc h) ws (suc i)
         ≡ freed h (freeing ws (suc i)) (left ws (suc i)) + freed h (releasing h (freeing ws (suc i)) (left ws (suc i))) (right ws (suc i)) + 1
     unfolding freed
-    freed-last m = rw (le-ltb 1 (count ws (suc i)) m)
+    freed_last m = rw (le-ltb 1 (count ws (suc i)) m)
 
 -- What a release leaves, k nodes having been freed.
 pub record Released (Valid : ℕ → Tree → ℕ → Type 0) (n v : ℕ) (R : List ℕ) (k : ℕ) (ws ws' : List ℕ) : Type 0 where
@@ -98,7 +98,7 @@ module _ (Valid : ℕ → Tree → ℕ → Type 0) (n v : ℕ) where
     inside = omega (arith, owned_long Valid n v ws (i ∷ R) o)
 
     pub pending_live : Live n ws i
-    pending_live = (low, high, omega (arith, occ-count Valid n v ws (i ∷ R) o i low high, occ-first i R))
+    pending_live = (low, high, omega (arith, occ_count Valid n v ws (i ∷ R) o i low high, occ-first i R))
 
     down_kept : Kept n ws (with_count ws i (count ws i - 1))
     down_kept j a = go (ℕ_discrete j i)
@@ -133,9 +133,9 @@ module _ (Valid : ℕ → Tree → ℕ → Type 0) (n v : ℕ) where
         )
 
     -- One free node more.
-    freeing-idles : idles n (freeing ws i) ≡ 1 + idles n ws
+    freeing_idles : idles n (freeing ws i) ≡ 1 + idles n ws
     unfolding idles idle_at
-    freeing-idles =
+    freeing_idles =
         let z =
         sum_change
         (idle_at (freeing ws i))
@@ -155,7 +155,7 @@ module _ (Valid : ℕ → Tree → ℕ → Type 0) (n v : ℕ) where
     released_free m =
         record {
           owned = freed_owned Valid n v i ws (freeing ws i) R o at_front low high (omega (arith, pending_live.2));
-          more = freeing-idles;
+          more = freeing_idles;
           kept = free_kept;
           outside = only_outside n i ws (freeing ws i) at_front.only low high;
         }
@@ -208,8 +208,8 @@ module _ (Valid : ℕ → Tree → ℕ → Type 0) (n v : ℕ) where
     node_released (yes m) = rw (releasing_more h ws i m, freed_more h ws i m) (released_down ws R (suc i) o r.1.low r.1.high m)
     node_released (no m) =
         let d : count ws (suc i) ≤ 1 = omega arith in
-        let k : 1 + freed h w1 L + freed h w2 N ≡ freed (suc h) ws (suc i) = omega (arith, freed-last h ws i d) in
-        rw (releasing-last h ws i d) (subst (λ (z : ℕ). Released Valid n v R z ws (releasing h w2 N)) k (last_released d))
+        let k : 1 + freed h w1 L + freed h w2 N ≡ freed (suc h) ws (suc i) = omega (arith, freed_last h ws i d) in
+        rw (releasing_last h ws i d) (subst (λ (z : ℕ). Released Valid n v R z ws (releasing h w2 N)) k (last_released d))
 
   pub releasing_released : (h : ℕ) (ws R : List ℕ) (i : ℕ) (t : Tree) → Owned Valid n v ws (i ∷ R) → Reads n ws i t → height t ≤ h → Releases h ws i R
   releasing_released zero ws R i leaf o r b = none_released zero ws R i r o

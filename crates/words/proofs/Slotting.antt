@@ -37,9 +37,9 @@ module _ (n : ℕ) (ws : List ℕ) (s r z : ℕ) (inside : node_words * n + slot
   unfolding slotting slot_root
   slotting_root = storing_here ws (node_words * n + slot_words * s) root_word (r ∷ (z ∷ [])) 0 (omega arith) (omega arith)
 
-  pub slotting-size : slot_size n (slotting n ws s r z) s ≡ z
+  pub slotting_size : slot_size n (slotting n ws s r z) s ≡ z
   unfolding slotting slot_size
-  slotting-size = storing_here ws (node_words * n + slot_words * s) root_word (r ∷ (z ∷ [])) 1 (omega arith) (omega arith)
+  slotting_size = storing_here ws (node_words * n + slot_words * s) root_word (r ∷ (z ∷ [])) 1 (omega arith) (omega arith)
 
 module _ (n s : ℕ) (ws ws' : List ℕ) (d : InSlot n s ws ws') where
   node_word : (j k : ℕ) → j ≤ n → k ≤ count_word → get_or ws' (node_words * j + k) 0 ≡ get_or ws (node_words * j + k) 0
@@ -148,9 +148,9 @@ module _ (Valid : ℕ → Tree → ℕ → Type 0) (n v s : ℕ) (ws P : List �
   slot_inside : (R : List ℕ) → Owned Valid n v ws R → node_words * n + slot_words * s + root_word + slot_words ≤ length ws
   slot_inside R o = omega (arith, o.shaped.limits.long_is)
 
-  held-not_held : (x : ℕ) → n ≤ max_nodes → x ≤ n → (ws' : List ℕ) → slot_root n ws' s ≡ not_held → held n ws' x s ≡ 0
+  held_not_held : (x : ℕ) → n ≤ max_nodes → x ≤ n → (ws' : List ℕ) → slot_root n ws' s ≡ not_held → held n ws' x s ≡ 0
   unfolding held
-  held-not_held x b q ws' e = rw e (same_ne not_held x (λ z. omega arith))
+  held_not_held x b q ws' e = rw e (same_ne not_held x (λ z. omega arith))
 
   -- A pending link goes into a slot that is not held.
   pub put_owned : (r z : ℕ) (t : Tree) → Owned Valid n v ws (r ∷ P) → slot_root n ws s ≡ not_held → Reads n ws r t → Valid s t z →
@@ -160,7 +160,7 @@ module _ (Valid : ℕ → Tree → ℕ → Type 0) (n v s : ℕ) (ws P : List �
       let d = slotting_in n ws s r z in
       let inside = slot_inside (r ∷ P) o in
       let er = slotting_root n ws s r z inside in
-      let ez = slotting-size n ws s r z inside in
+      let ez = slotting_size n ws s r z inside in
       slot_owned
       Valid
       n
@@ -173,7 +173,7 @@ module _ (Valid : ℕ → Tree → ℕ → Type 0) (n v s : ℕ) (ws P : List �
       o
       d
       h
-      (λ x p q. omega (arith, held-not_held x o.shaped.limits.n_high q ws e, ap (λ (y : ℕ). same y x) er))
+      (λ x p q. omega (arith, held_not_held x o.shaped.limits.n_high q ws e, ap (λ (y : ℕ). same y x) er))
       (λ p m. o.pending p (omega (arith, occ_more r p P)))
       (inr (t, rw er (slot_reads n s ws (slotting n ws s r z) d r t hr), rw ez hv))
 
@@ -184,7 +184,7 @@ module _ (Valid : ℕ → Tree → ℕ → Type 0) (n v s : ℕ) (ws P : List �
       let d = slotting_in n ws s not_held 0 in
       let inside = slot_inside P o in
       let er = slotting_root n ws s not_held 0 inside in
-      let ez = slotting-size n ws s not_held 0 inside in
+      let ez = slotting_size n ws s not_held 0 inside in
       slot_owned
       Valid
       n
@@ -197,6 +197,6 @@ module _ (Valid : ℕ → Tree → ℕ → Type 0) (n v s : ℕ) (ws P : List �
       o
       d
       h
-      (λ x p q. omega (arith, held-not_held x o.shaped.limits.n_high q (unslotting n ws s) er))
+      (λ x p q. omega (arith, held_not_held x o.shaped.limits.n_high q (unslotting n ws s) er))
       (pending_first n (slot_root n ws s) P (⊎_elim (λ e. omega arith) (λ b. b.1) (reads_link n ws (slot_root n ws s) t hr)) o.pending)
       (inl (er, ez))

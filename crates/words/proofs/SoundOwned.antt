@@ -183,7 +183,7 @@ module _ (ws : List ℕ) (S : Sound ws) where
         counts = sound_counts;
         pending = λ p h. absurd (omega arith);
         free = S.books.free;
-        chain = S.books.free-listed;
+        chain = S.books.free_listed;
         frees = sound_frees;
         versions = λ s h. sound_version s h (ℕ_discrete (slot_root (nodes ws) ws s) not_held);
       }

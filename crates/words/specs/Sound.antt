@@ -70,7 +70,7 @@ pub record Books (ws : List ℕ) (T : Trees ws) : Type 0 where
   pub free : List ℕ
   -- RULES 3.8: "The nodes on the free list are exactly those that no held slot reaches. Each stands
   -- there once, and its count is 0."
-  pub free-listed : Chain (nodes ws) ws (head ws) free
+  pub free_listed : Chain (nodes ws) ws (head ws) free
   pub free_once : (i : ℕ) → occ i free ≤ 1
   pub free_unreached : (i : ℕ) → 1 ≤ occ i free → Reached ws i → ⊥
   pub unreached_free : (i : ℕ) → 1 ≤ i → i ≤ nodes ws → (Reached ws i → ⊥) → 1 ≤ occ i free

@@ -85,8 +85,8 @@ module _ {ws : List ℕ} {p : Parent} (k : Parents ws p) where
   edit_low d b =
       omega (arith, height-H (edit d t) (fine_edit d t fine) (omega arith), H-below (size (edit d t)) 11 (omega arith) (omega arith))
 
-  has-idles : {m : ℕ} → HasFree ws m → m ≤ idles (nodes ws) ws
-  has-idles f = omega (arith, f.has S, sound_idles ws S)
+  has_idles : {m : ℕ} → HasFree ws m → m ≤ idles (nodes ws) ws
+  has_idles f = omega (arith, f.has S, sound_idles ws S)
 
   pub planned_edit : {plan : List ℕ} {link : ℕ} (d : Edit) → Holds ws plan link (edit d t) → Room ws plan 0 → size (edit d t) ≤ 2048 →
       made (edit d t) ≤ idles (nodes ws) ws → Planned ws plan link p.out
@@ -140,14 +140,14 @@ module _ {ws : List ℕ} {p : Parent} (k : Parents ws p) where
   pub insert_scratch : Room ws (replicate 341 0) (insert_room 22)
   insert_scratch = sound_room ws 341 68 k.sound (omega arith) (omega arith)
 
-  pub insert-held : (plan : List ℕ) → Held ws plan p.root 22
-  insert-held plan = subst (λ (i : ℕ). Held ws plan i 22) (sym k.of.root_is) (sound_held ws plan k.sound k.slot k.of.held)
+  pub insert_held : (plan : List ℕ) → Held ws plan p.root 22
+  insert_held plan = subst (λ (i : ℕ). Held ws plan i 22) (sym k.of.root_is) (sound_held ws plan k.sound k.slot k.of.held)
 
   pub remove_scratch : Room ws (replicate 886 0) (remove_room 22)
   remove_scratch = sound_room ws 886 177 k.sound (omega arith) (omega arith)
 
-  pub remove-held : (plan : List ℕ) → RedBlack ws plan p.root 22
-  remove-held plan = subst (λ (i : ℕ). RedBlack ws plan i 22) (sym k.of.root_is) (sound_red_black ws plan k.sound k.slot k.of.held)
+  pub remove_held : (plan : List ℕ) → RedBlack ws plan p.root 22
+  remove_held plan = subst (λ (i : ℕ). RedBlack ws plan i 22) (sym k.of.root_is) (sound_red_black ws plan k.sound k.slot k.of.held)
 
 -- An insertion: the plan holds the tree with the entry set, of this size.
 module _ {ws plan plan' : List ℕ} {link : ℕ} {p : Parent} (e : Entry) (k : Parents ws p)
@@ -166,13 +166,13 @@ module _ {ws plan plan' : List ℕ} {link : ℕ} {p : Parent} (e : Entry) (k : P
       (omega (
         arith,
         reserve_insert (t k) (fine k) (none_made k) (omega (arith, small k)) e,
-        has-idles k f,
+        has_idles k f,
         ap insert_reserve (parent_size k),
       ))
 
   module _ {new : Bool} {z : ℕ} (N : News ws plan p.root e.key new) (z-is : z ≡ p.size + (if new then 1 else 0)) where
-    size-after : (u : Tree) → Reads (nodes ws) ws p.root u → z ≡ size (edit (setting e) u)
-    size-after u r =
+    size_after : (u : Tree) → Reads (nodes ws) ws p.root u → z ≡ size (edit (setting e) u)
+    size_after u r =
         z-is ∙ ap (λ (m : ℕ). m + (if new then 1 else 0)) (parent_size k) ∙
         go (has e.key (t k)) (N.says (reads_holds plan p.root (t k) (reads k))) ∙ sym (size-insert e (t k) (fine k).ordered) ∙
         ap (λ (y : Tree). size (edit (setting e) y)) (sym (only k u r))
@@ -184,7 +184,7 @@ module _ {ws plan plan' : List ℕ} {link : ℕ} {p : Parent} (e : Entry) (k : P
     pub insert_edits : {w : List ℕ} {m : ℕ} → Puts ws w plan' link p.out z m → Edits ws w p (setting e) m
     insert_edits {w} {m} P =
         record {
-          edits = λ u r. subst (λ (y : ℕ). PutInSlot ws w (edit (setting e) u) p.out y m) (size-after u r) (P.puts (edit (setting e) u) (insert_holds u r));
+          edits = λ u r. subst (λ (y : ℕ). PutInSlot ws w (edit (setting e) u) p.out y m) (size_after u r) (P.puts (edit (setting e) u) (insert_holds u r));
         }
 
 -- A removal of a key that is there.
@@ -213,7 +213,7 @@ module _ {ws plan plan' : List ℕ} {link : ℕ} {p : Parent} {key : ℕ} (k : P
       (omega (
         arith,
         reserve_remove (t k) (fine k) (none_made k) (omega (arith, small k)) key (there.present (t k) (reads k)),
-        has-idles k f,
+        has_idles k f,
         ap remove_reserve (parent_size k),
       ))
 

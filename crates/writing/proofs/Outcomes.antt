@@ -10,7 +10,7 @@ use Rattle.trees.specs.Tree as trees
 use Rattle.trees.specs.Edit.{setting, cutting, edit}
 use Rattle.trees.specs.Listing.{find, is_some}
 use Rattle.trees.specs.Lookup.{get, has}
-use Rattle.trees.proofs.Lookups.{get-find, has-find}
+use Rattle.trees.proofs.Lookups.{get_find, has_find}
 use Rattle.words.specs.Layout.{nodes, max_height}
 use Rattle.words.specs.Sound.{Sound}
 use Rattle.words.specs.Model.{raising, slotting}
@@ -54,14 +54,14 @@ module _ {ws : List ℕ} {s : ℕ} {x : Opened} (S : Sound ws) (g : Opens ws s x
     -- The key that a lookup found is there; that it did not find is not.
     module _ {f : Found} (key : ℕ) (m : Finds ws p.root f (get key)) where
       found_is : found_of f ≡ find key (trees.listing (t k))
-      found_is = m.says (nodes ws) (t k) (reads k) ∙ get-find key (t k) (fine k).ordered
+      found_is = m.says (nodes ws) (t k) (reads k) ∙ get_find key (t k) (fine k).ordered
 
       pub found_present : {y : Entry} → f ≡ At y → Present ws p key
       found_present {y} e =
           record {
             present = λ u r.
                 let z = sym found_is ∙ ap found_of e in
-                let here : has key (t k) ≡ true = has-find key (t k) (fine k).ordered ∙ ap is_some z in
+                let here : has key (t k) ≡ true = has_find key (t k) (fine k).ordered ∙ ap is_some z in
                 rw (only k u r) here;
           }
 
@@ -95,11 +95,11 @@ module _ {ws : List ℕ} {s : ℕ} {x : Opened} (S : Sound ws) (g : Opens ws s x
             P.commits
             refl)
 
-      pub insert-has : r ≡ insert_reserve p.size → r ≤ f → HasFree ws (insert_reserve p.size)
-      insert-has = has_reserve
+      pub insert_has : r ≡ insert_reserve p.size → r ≤ f → HasFree ws (insert_reserve p.size)
+      insert_has = has_reserve
 
-      pub remove-has : r ≡ remove_reserve p.size → r ≤ f → HasFree ws (remove_reserve p.size)
-      remove-has = has_reserve
+      pub remove_has : r ≡ remove_reserve p.size → r ≤ f → HasFree ws (remove_reserve p.size)
+      remove_has = has_reserve
 
       module _ {o : Found} {y : Entry} (key : ℕ) (m : Finds ws p.root o (get key)) (a : o ≡ At y) (q : r ≡ remove_reserve p.size) where
         there : find key (trees.listing (t k)) ≡ some (entry_of y)

@@ -28,23 +28,23 @@ module _ {ws : List ℕ} {s : ℕ} {x : Opened} (S : Sound ws) (g : Opens ws s x
     put : PutInSlot ws w (edit d (t k)) p.out (size (edit d (t k))) m
     put = E.edits (t k) (reads k)
 
-    put-nodes : nodes w ≡ nodes ws
-    put-nodes =
+    put_nodes : nodes w ≡ nodes ws
+    put_nodes =
         rw
         put.words_are
         (slotted_nodes (nodes ws) put.built.words p.out put.built.link (size (edit d (t k))) ∙ put.commits.owned.shaped.n_is)
 
-    put-idles : idles (nodes ws) w + m ≡ idles (nodes ws) ws
-    put-idles =
+    put_idles : idles (nodes ws) w + m ≡ idles (nodes ws) ws
+    put_idles =
         let a = slotted_idles (nodes ws) put.built.words p.out put.built.link (size (edit d (t k))) in
         let z = ap (idles (nodes ws)) put.words_are in
         omega (arith, put.takes, put.commits.taken)
 
     pub edit_few : m ≤ f
-    edit_few = omega (arith, put-idles, F.is S, sound_idles ws S)
+    edit_few = omega (arith, put_idles, F.is S, sound_idles ws S)
 
-    pub edit-free : FreeIs w (f - m)
-    edit-free = balanced m 0 S F put-nodes (omega (arith, put-idles)) (omega (arith, edit_few))
+    pub edit_free : FreeIs w (f - m)
+    edit_free = balanced m 0 S F put_nodes (omega (arith, put_idles)) (omega (arith, edit_few))
 
   -- Of an absent key nothing is taken.
   pub absent_free : {w : List ℕ} → w ≡ slotting (nodes ws) (raising ws p.root) p.out p.root p.size → FreeIs w f

@@ -1,10 +1,10 @@
 use borrow.Author.Rules.{rules}
-use Rattle.balancing.proofs.Balancing.{left-left, left-right, is_calm}
+use Rattle.balancing.proofs.Balancing.{left_left, left_right, is_calm}
 use Rattle.balancing.proofs.balance_black.Statement.{statement}
 use Rattle.balancing.proofs.balance_black.Tie as tie
 
 returns-2 : tie.Need-returns-2
-returns-2 c = search (left-right, c.before.before.before.before.before.before.before.before.before.before.before.before.before.before.before.before.requires.1.0)
+returns-2 c = search (left_right, c.before.before.before.before.before.before.before.before.before.before.before.before.before.before.before.before.requires.1.0)
 
 balance-right-requires : tie.Need-balance-right-requires
 balance-right-requires c κs =
@@ -27,7 +27,7 @@ balance-black-spec =
     (λ c κs. search rules)
     (λ c κs. search rules)
     (λ c. search rules)
-    (λ c. search left-left)
+    (λ c. search left_left)
     (λ c κs. search rules)
     (λ c κs. search rules)
     (λ c κs. search rules)

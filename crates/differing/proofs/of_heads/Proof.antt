@@ -1,4 +1,4 @@
-use Rattle.differing.proofs.Nexts.{none_left, second_left, first-left, both_left}
+use Rattle.differing.proofs.Nexts.{none_left, second_left, first_left, both_left}
 use borrow.Author.Rules.{rules}
 use Rattle.differing.proofs.of_heads.Statement.{statement}
 use Rattle.differing.proofs.of_heads.Tie as tie
@@ -31,7 +31,7 @@ returns-2 : tie.Need-returns-2
 returns-2 c = search second_left
 
 returns-3 : tie.Need-returns-3
-returns-3 c = search first-left
+returns-3 c = search first_left
 
 returns-4 : tie.Need-returns-4
 returns-4 c = search both_left

@@ -1,5 +1,5 @@
 use borrow.Author.Rules.{rules}
-use Rattle.fusing.proofs.Joining.{fuse-left_none, fuse-right_none, two, one, less_two, less_one, room_two, room_one, twin_inner, twin_right, twin_left, room_join, room_push, ends_fused, fused_same, fused_right, fused_left}
+use Rattle.fusing.proofs.Joining.{fuse_left_none, fuse_right_none, two, one, less_two, less_one, room_two, room_one, twin_inner, twin_right, twin_left, room_join, room_push, ends_fused, fused_same, fused_right, fused_left}
 use Prim.Native.Nat.{ℕ, ◌<◌}
 use borrow.Fn.Kinds.{In}
 use borrow.Fn.PlainCycle.{Measures, is, falls, and}
@@ -41,10 +41,10 @@ pub +remove-fuse-spec : {M : Type 1} → statement M
     remove-fuse.Post
     (λ c κs. search rules)
     (λ c. search rules)
-    (λ c. search fuse-left_none)
+    (λ c. search fuse_left_none)
     (λ c κs. search rules)
     (λ c. search rules)
-    (λ c. search fuse-right_none)
+    (λ c. search fuse_right_none)
     (λ c κs. search rules)
     (λ c κs. search rules)
     (λ c. search two)

@@ -1,5 +1,5 @@
 use borrow.Author.Rules.{rules}
-use Rattle.fusing.proofs.Joining.{join-between, join_red, room_leans, some_leans, join_leans, join_black}
+use Rattle.fusing.proofs.Joining.{join_between, join_red, room_leans, some_leans, join_leans, join_black}
 use Rattle.fusing.proofs.fuse_join.Statement.{statement}
 use Rattle.fusing.proofs.fuse_join.Tie as tie
 
@@ -11,7 +11,7 @@ returns c =
     let at-if1 = at_push.before.before in
     let at-look = at-if1.before.before in
     let at-start = at-look.before.before.before.before in
-    join-between at-look.look.ensures at-start.requires.1 at-if1.if1.true at_push.push.ensures at-push2.push2.ensures at-push3.push3.ensures
+    join_between at-look.look.ensures at-start.requires.1 at-if1.if1.true at_push.push.ensures at-push2.push2.ensures at-push3.push3.ensures
 
 remove-balance-left-requires : tie.Need-remove-balance-left-requires
 remove-balance-left-requires c κs =

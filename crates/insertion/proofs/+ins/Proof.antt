@@ -1,7 +1,7 @@
 use borrow.Author.Rules.{rules}
 use Rattle.plan.proofs.Growing.{some_kept, some_turned}
-use Rattle.plan.proofs.Looking.{tall, held-left, held-right}
-use Rattle.insertion.proofs.Inserting.{ins_none, news_none, less_down, room_down, room_up, ins_here, news_here, ins-left, news_left, ins-right, news_right}
+use Rattle.plan.proofs.Looking.{tall, held_left, held_right}
+use Rattle.insertion.proofs.Inserting.{ins_none, news_none, less_down, room_down, room_up, ins_here, news_here, ins_left, news_left, ins_right, news_right}
 use Prim.Native.Nat.{ℕ, ◌<◌}
 use borrow.Fn.Kinds.{In}
 use borrow.Fn.PlainCycle.{Measures, is, falls, and}
@@ -41,17 +41,17 @@ pub +ins-spec : {M : Type 1} → statement M
     (λ c. (search ins_none, search news_none))
     (λ c κs. search rules)
     (λ c. search tall)
-    (λ c κs. (search less_down, (search room_down, search held-left)))
+    (λ c κs. (search less_down, (search room_down, search held_left)))
     (λ c κs. (search room_up, (search some_turned, search some_kept)))
     (λ c. search rules)
-    (λ c. (search ins-left, search news_left))
+    (λ c. (search ins_left, search news_left))
     (λ c. search tall)
-    (λ c κs. (search less_down, (search room_down, search held-right)))
+    (λ c κs. (search less_down, (search room_down, search held_right)))
     (λ c κs.
     let at-start = c.before.before.before.before.before.before.before.before.before.before.before.before.before.before.before.before in
     (search (room_up, at-start.requires.1.1, at-start.requires.1.0), (search some_kept, search some_turned)))
     (λ c. search rules)
-    (λ c. (search (ins-right, c.before.before.before.before.before.before.before.before.before.before.before.before.before.before.before.before.before.before.before.requires.1.1), search news_right))
+    (λ c. (search (ins_right, c.before.before.before.before.before.before.before.before.before.before.before.before.before.before.before.before.before.before.before.requires.1.1), search news_right))
     (λ c κs. search rules)
     (λ c. search rules)
     (λ c. (search ins_here, search news_here))

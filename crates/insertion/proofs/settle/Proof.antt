@@ -1,5 +1,5 @@
 use borrow.Author.Rules.{rules}
-use Rattle.insertion.proofs.Inserting.{settle-new, settle_old}
+use Rattle.insertion.proofs.Inserting.{settle_new, settle_old}
 use Rattle.insertion.proofs.settle.Statement.{statement}
 use Rattle.insertion.proofs.settle.Tie as tie
 
@@ -10,6 +10,6 @@ settle-spec =
     (λ c κs. search rules)
     (λ c κs. search rules)
     (λ c. search rules)
-    (λ c. search settle-new)
+    (λ c. search settle_new)
     (λ c. search rules)
     (λ c. search settle_old))

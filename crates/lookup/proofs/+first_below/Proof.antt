@@ -1,5 +1,5 @@
 use borrow.Author.Rules.{rules}
-use Rattle.lookup.proofs.Descents.{rooted_inside, rooted_high, lower, rooted-sides, first_none, first-left}
+use Rattle.lookup.proofs.Descents.{rooted_inside, rooted_high, lower, rooted-sides, first_none, first_left}
 use Prim.Native.Nat.{ℕ, ◌<◌}
 use borrow.Fn.Kinds.{In}
 use borrow.Fn.PlainCycle.{Measures, is, falls, and}
@@ -38,4 +38,4 @@ pub +first-below-spec : {M : Type 1} → statement M
     (λ c. search rooted_high)
     (λ c κs. (search lower, search rooted-sides))
     (λ c κs. search rules)
-    (λ c. search first-left)
+    (λ c. search first_left)

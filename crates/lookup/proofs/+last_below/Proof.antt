@@ -1,5 +1,5 @@
 use borrow.Author.Rules.{rules}
-use Rattle.lookup.proofs.Descents.{rooted_inside, rooted_high, lower, rooted-sides, last_none, last-right}
+use Rattle.lookup.proofs.Descents.{rooted_inside, rooted_high, lower, rooted-sides, last_none, last_right}
 use Prim.Native.Nat.{ℕ, ◌<◌}
 use borrow.Fn.Kinds.{In}
 use borrow.Fn.PlainCycle.{Measures, is, falls, and}
@@ -38,4 +38,4 @@ pub +last-below-spec : {M : Type 1} → statement M
     (λ c. search rooted_high)
     (λ c κs. (search lower, search rooted-sides))
     (λ c κs. search rules)
-    (λ c. search last-right)
+    (λ c. search last_right)

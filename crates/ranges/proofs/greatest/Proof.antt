@@ -5,7 +5,7 @@ use Rattle.trees.specs.Lookup.{greatest}
 use Rattle.lookup.proofs.Descents.{rooted_inside, rooted_high, lower}
 use Rattle.lookup.proofs.Leading.{Leads, leads_start}
 use Rattle.ranges.specs.Ranges.{range_of}
-use Rattle.ranges.proofs.Digging.{greatest_end, greatest-right, greatest-left}
+use Rattle.ranges.proofs.Digging.{greatest_end, greatest_right, greatest_left}
 use Rattle.ranges.proofs.greatest.Statement.{statement}
 use Rattle.ranges.proofs.greatest.Tie as tie
 
@@ -31,7 +31,7 @@ loop-less : tie.Need-loop-smaller invariant-loop decreases-loop
 loop-less c = search lower
 
 loop-again : tie.Need-loop-preserved invariant-loop decreases-loop
-loop-again c = ⊎_elim (λ w. search greatest-right) (λ w. search greatest-left) c.if1.branch
+loop-again c = ⊎_elim (λ w. search greatest_right) (λ w. search greatest_left) c.if1.branch
 
 returns : tie.Need-returns invariant-loop decreases-loop
 returns c = search greatest_end

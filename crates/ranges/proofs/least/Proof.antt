@@ -5,7 +5,7 @@ use Rattle.trees.specs.Lookup.{least}
 use Rattle.lookup.proofs.Descents.{rooted_inside, rooted_high, lower}
 use Rattle.lookup.proofs.Leading.{Leads, leads_start}
 use Rattle.ranges.specs.Ranges.{range_of}
-use Rattle.ranges.proofs.Digging.{least_end, least-left, least-right}
+use Rattle.ranges.proofs.Digging.{least_end, least_left, least_right}
 use Rattle.ranges.proofs.least.Statement.{statement}
 use Rattle.ranges.proofs.least.Tie as tie
 
@@ -31,7 +31,7 @@ loop-less : tie.Need-loop-smaller invariant-loop decreases-loop
 loop-less c = search lower
 
 loop-again : tie.Need-loop-preserved invariant-loop decreases-loop
-loop-again c = ⊎_elim (λ w. search least-left) (λ w. search least-right) c.if1.branch
+loop-again c = ⊎_elim (λ w. search least_left) (λ w. search least_right) c.if1.branch
 
 returns : tie.Need-returns invariant-loop decreases-loop
 returns c = search least_end

@@ -1,5 +1,5 @@
 use borrow.Author.Rules.{rules}
-use Rattle.soundness_laws.proofs.Sparing.{Walk, walk_start, walk_no, walk_inside, walk_more, walk-past, walk_end}
+use Rattle.soundness_laws.proofs.Sparing.{Walk, walk_start, walk_no, walk_inside, walk_more, walk_past, walk_end}
 use Rattle.reaching.proofs.free_list_right.Statement.{statement}
 use Rattle.reaching.proofs.free_list_right.Tie as tie
 
@@ -22,7 +22,7 @@ loop-again : tie.Need-loop-preserved invariant-loop decreases-loop
 loop-again c = search walk_more
 
 returns-2 : tie.Need-returns-2 invariant-loop decreases-loop
-returns-2 c = search walk-past
+returns-2 c = search walk_past
 
 returns-3 : tie.Need-returns-3 invariant-loop decreases-loop
 returns-3 c = search walk_end

@@ -1,6 +1,6 @@
 use borrow.Author.Rules.{rules}
 use Rattle.answers.proofs.Entries.{header_inside}
-use Rattle.versions.proofs.Handing.{new_refused, new_inside, new_told, new-free}
+use Rattle.versions.proofs.Handing.{new_refused, new_inside, new_told, new_free}
 use Rattle.versions.proofs.new_version.Statement.{statement}
 use Rattle.versions.proofs.new_version.Tie as tie
 
@@ -16,4 +16,4 @@ new-version-spec =
     (λ c κs. search header_inside)
     (λ c κs. search new_inside)
     (λ c. search rules)
-    (λ c. (search new_told, search new-free)))
+    (λ c. (search new_told, search new_free)))

@@ -1,7 +1,7 @@
 use borrow.Author.Rules.{rules}
 use Rattle.versions.proofs.Opening.{parents}
-use Rattle.writing.proofs.Outcomes.{opened_small, insert_no_room, insert-has, insert_refused, insert_told}
-use Rattle.writing.proofs.Taking.{edit_few, edit-free}
+use Rattle.writing.proofs.Outcomes.{opened_small, insert_no_room, insert_has, insert_refused, insert_told}
+use Rattle.writing.proofs.Taking.{edit_few, edit_free}
 use Rattle.writing.proofs.insert.Statement.{statement}
 use Rattle.writing.proofs.insert.Tie as tie
 
@@ -15,9 +15,9 @@ insert-spec =
     (λ c κs. search opened_small)
     (λ c. search rules)
     (λ c. (search insert_no_room, search rules))
-    (λ c κs. (search parents, search insert-has))
+    (λ c κs. (search parents, search insert_has))
     (λ c. search edit_few)
     (λ c. search rules)
     (λ c. (search insert_refused, search rules))
     (λ c. search rules)
-    (λ c. (search insert_told, search edit-free)))
+    (λ c. (search insert_told, search edit_free)))

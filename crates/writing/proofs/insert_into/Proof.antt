@@ -1,11 +1,11 @@
 use borrow.Author.Rules.{rules}
 use Rattle.arena.specs.Nodes.{entry_of}
-use Rattle.writing.proofs.Editing.{insert_scratch, insert-held, parent_small, insert_planned, insert_edits}
+use Rattle.writing.proofs.Editing.{insert_scratch, insert_held, parent_small, insert_planned, insert_edits}
 use Rattle.writing.proofs.insert_into.Statement.{statement}
 use Rattle.writing.proofs.insert_into.Tie as tie
 
 insert-requires : tie.Need-insert-requires
-insert-requires c κs = (insert_scratch c.before.before.before.requires.0, insert-held c.before.before.before.requires.0 _)
+insert-requires c κs = (insert_scratch c.before.before.before.requires.0, insert_held c.before.before.before.requires.0 _)
 
 commit-to-requires : tie.Need-commit-to-requires
 commit-to-requires c κs = insert_planned (entry_of c.before.before.before.before.before.before.before.before.args.e) c.before.before.before.before.before.before.before.before.requires.0 c.before.before.before.before.insert.ensures.0 (insert_scratch c.before.before.before.before.before.before.before.before.requires.0) c.before.before.before.before.before.before.before.before.requires.1
