@@ -2,6 +2,8 @@
 // numbers, top last: each node's entry and then its right part are still to come. Where both sides
 // stand at one link both list alike, and the link is passed over. The one side has the link i and p
 // numbers on the stack a, the other side the link j and q numbers on the stack b.
+#![tactic(auto)]
+
 ghost use Rattle.std.specs.Prelude.{◌≡◌};
 ghost use Rattle.words.specs.Layout.{max_height};
 ghost use Rattle.lookup.specs.Finding.{found_of, Rooted};

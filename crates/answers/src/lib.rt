@@ -1,5 +1,7 @@
 // The refusals, what the calls that read answer, and the way into the version of a slot, on a sound
 // arena.
+#![tactic(auto)]
+
 ghost use Rattle.std.specs.Prelude.{◌≡◌};
 ghost use Rattle.words.specs.Sound.{Sound};
 ghost use Rattle.answers.specs.Answers.{refusal_number};

@@ -1,4 +1,6 @@
 // The arena's words: nodes as they are read, and the slots. Module 2 (RULES 6.2), with `nodes`.
+#![tactic(auto)]
+
 ghost use Rattle.std.specs.Prelude.{◌≡◌, ◌≤◌, length};
 ghost use Rattle.words.specs.Layout.{nodes, slots, head, left, right, count, slot_root, slot_size};
 ghost use Rattle.words.specs.Model.{slotting};

@@ -1,4 +1,6 @@
 // 000's `balance` on a read-only arena and a plan. Module 4 (RULES 6.5).
+#![tactic(auto)]
+
 ghost use Rattle.std.specs.Prelude.{◌≡◌};
 ghost use Rattle.trees.specs.Insert.{balance as balanceOf};
 ghost use Rattle.plan.specs.Held.{Some, Room};

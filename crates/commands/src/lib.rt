@@ -1,4 +1,6 @@
 // The commands of the program, RULES 9.6 to 9.12: a line taken apart.
+#![tactic(auto)]
+
 ghost use Rattle.std.specs.Prelude.{◌≡◌, drop};
 ghost use Rattle.decimal.specs.Numbers.{Finds};
 ghost use Rattle.commands.specs.Parts.{begins as beginsWith, field as fieldIn, one_in, two_in, three_in};

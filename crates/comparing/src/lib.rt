@@ -1,5 +1,7 @@
 // Compare and equal, RULES 8.1 to 8.3, on a sound arena: both versions are walked side by side, and
 // where they part the next entries decide.
+#![tactic(auto)]
+
 ghost use Rattle.std.specs.Prelude.{◌≡◌};
 ghost use Rattle.words.specs.Layout.{max_height};
 ghost use Rattle.words.specs.Sound.{Sound};

@@ -1,4 +1,6 @@
 // The decimal text of a number, read and written at a place.
+#![tactic(auto)]
+
 ghost use Rattle.std.specs.Prelude.{◌≡◌, ◌+◌, ◌-◌, ◌*◌, ◌≤◌, ◌<◌, drop};
 ghost use Rattle.decimal.specs.Decimal.{digit, digits};
 ghost use Rattle.decimal.specs.Numbers.{is_digit, number_from, number as number_in, Finds};

@@ -1,5 +1,7 @@
 // The difference step, RULES 4.41 and 8.7 to 8.11, on a sound arena: two stacks are filled above
 // the last key given, what both list alike is passed over, and the next entries say what differs.
+#![tactic(auto)]
+
 mod filling;
 
 ghost use Rattle.std.specs.Prelude.{◌≡◌};

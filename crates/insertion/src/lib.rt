@@ -1,4 +1,6 @@
 // 000's `insert` on a read-only arena and a plan. Module 5 (RULES 6.6).
+#![tactic(auto)]
+
 ghost use Rattle.std.specs.Prelude.{not};
 ghost use Rattle.trees.specs.Insert.{settle as settleOf, ins as insOf, insert as insertOf};
 ghost use Rattle.arena.specs.Nodes.{entry_of};

@@ -1,4 +1,6 @@
 // The descents of module 8 (RULES 6.9, 7.8): the steps of a walk over a range, over node numbers.
+#![tactic(auto)]
+
 ghost use Rattle.std.specs.Prelude.{◌≡◌};
 ghost use Rattle.words.specs.Layout.{max_height};
 ghost use Rattle.trees.specs.Range.{from_start, to_end, past, after_front, before_back, front as atFront, back as atBack};

@@ -1,4 +1,6 @@
 // The answers of the program, RULES 9.6 to 9.15: each written as a line.
+#![tactic(auto)]
+
 ghost use Rattle.std.specs.Prelude.{[], ◌∷◌, ◌++◌, ◌+◌, ◌≤◌, length};
 ghost use Rattle.decimal.specs.Decimal.{digits};
 ghost use Rattle.decimal.specs.Written.{Written};

@@ -1,5 +1,7 @@
 // The soundness test, RULES 4.40: yes exactly when the arena is sound, and then how many nodes are
 // free. It writes nothing.
+#![tactic(auto)]
+
 pub mod packed;
 pub mod settling;
 

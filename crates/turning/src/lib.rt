@@ -1,5 +1,7 @@
 // 000's `remove_balance`, and the third arms of its two sides, on a read-only arena and a plan. A
 // part of module 6 (RULES 6.7).
+#![tactic(auto)]
+
 ghost use Rattle.trees.specs.Remove.{remove_balance};
 ghost use Rattle.plan.specs.Held.{Some, Room};
 ghost use Rattle.plan.specs.Steps.{Looks, Steps};

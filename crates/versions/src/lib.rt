@@ -1,5 +1,7 @@
 // The versions, RULES 4.34 to 4.36: new, hold and release, on a sound arena, and the tests of the
 // calls that hand out a slot. Each takes the free number and gives it back.
+#![tactic(auto)]
+
 ghost use Rattle.std.specs.Prelude.{◌≡◌};
 ghost use Rattle.words.specs.Layout.{nodes};
 ghost use Rattle.words.specs.Sound.{Sound};

@@ -1,5 +1,7 @@
 // Insert and remove, on a sound arena: RULES 4.10, 4.11, 4.37 and 4.38. `red_black_tree_map` tests
 // the arena first. Each takes the free number and gives it back.
+#![tactic(auto)]
+
 ghost use Rattle.std.specs.Prelude.{◌≡◌, ◌+◌, ◌<◌};
 ghost use Rattle.heights.specs.Choice.{if◌then◌else◌};
 ghost use Rattle.heights.specs.Height.{insert_reserve, remove_reserve};
