@@ -18,21 +18,21 @@ use lookup::Found;
 pub const STACK: usize = MAX_HEIGHT as usize + 1;
 
 // A side after a step: its link, and how many numbers its stack has.
-#[derive(Drop)]
+#[derive(Clone, Copy)]
 pub struct Side {
     pub link: u32,
     pub depth: usize,
 }
 
 // How many numbers the two stacks have.
-#[derive(Drop)]
+#[derive(Clone, Copy)]
 pub struct Depths {
     pub one: usize,
     pub other: usize,
 }
 
 // What comes next on both sides, where they part.
-#[derive(Drop)]
+#[derive(Clone, Copy)]
 pub struct Heads {
     pub one: Found,
     pub other: Found,

@@ -10,7 +10,7 @@ ghost use Rattle.commands.specs.Text.{Reads};
 use decimal::{Found, number};
 
 // A command, by its numbers in the order of the line.
-#[derive(Drop)]
+#[derive(Clone, Copy)]
 pub enum Command {
     New,
     Hold(u32),
@@ -22,26 +22,26 @@ pub enum Command {
 }
 
 // What a line says.
-#[derive(Drop)]
+#[derive(Clone, Copy)]
 pub enum Line {
     Says(Command),
     Unknown,
 }
 
 // So many numbers up to the line's end.
-#[derive(Drop)]
+#[derive(Clone, Copy)]
 enum One {
     Number(u32),
     Wrong,
 }
 
-#[derive(Drop)]
+#[derive(Clone, Copy)]
 enum Two {
     Numbers(u32, u32),
     Wrong,
 }
 
-#[derive(Drop)]
+#[derive(Clone, Copy)]
 enum Three {
     Numbers(u32, u32, u32),
     Wrong,

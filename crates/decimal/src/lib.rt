@@ -7,7 +7,7 @@ ghost use Rattle.decimal.specs.Numbers.{is_digit, number_from, number as number_
 ghost use Rattle.decimal.specs.Written.{HasRoom, Written};
 
 // A number and the place after it, where one stands.
-#[derive(Drop)]
+#[derive(Clone, Copy)]
 pub enum Found {
     Number(u32, usize),
     Nothing,

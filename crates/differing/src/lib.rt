@@ -23,7 +23,7 @@ use lookup::Found;
 use ranges::LastKey;
 
 // RULES 8.9: what the caller keeps, by value.
-#[derive(Drop)]
+#[derive(Clone, Copy)]
 pub struct Differences {
     pub first: u32,
     pub second: u32,

@@ -15,7 +15,7 @@ use plan::look;
 use planning::{paint, push};
 
 // A link, and whether its key is new.
-#[derive(Drop)]
+#[derive(Clone, Copy)]
 pub struct Put {
     pub link: u32,
     pub new: bool,

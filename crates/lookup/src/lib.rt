@@ -13,7 +13,7 @@ ghost use Rattle.lookup.specs.Finding.{found_of, Rooted, Finds};
 use arena::{Entry, MAX_HEIGHT, Node, node_at};
 
 // The entry that was looked for, if there is one.
-#[derive(Drop)]
+#[derive(Clone, Copy)]
 pub enum Found {
     At(Entry),
     Nothing,

@@ -12,7 +12,7 @@ use arena::{MAX_HEIGHT, node_at};
 use lookup::Found;
 
 // RULES 7.1: an end of a range.
-#[derive(Drop)]
+#[derive(Clone, Copy)]
 pub enum Bound {
     Included(u32),
     Excluded(u32),
@@ -20,14 +20,14 @@ pub enum Bound {
 }
 
 // RULES 7.1: the last key that a walk gave at one of its ends, if any.
-#[derive(Drop)]
+#[derive(Clone, Copy)]
 pub enum LastKey {
     Given(u32),
     NotGiven,
 }
 
 // What a walk keeps besides its slot.
-#[derive(Drop)]
+#[derive(Clone, Copy)]
 pub struct Range {
     pub start: Bound,
     pub end: Bound,

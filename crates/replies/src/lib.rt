@@ -9,7 +9,7 @@ ghost use Rattle.replies.specs.Text.{reply, longest};
 use decimal::{put_number, put_text};
 
 // An answer that takes one line.
-#[derive(Drop)]
+#[derive(Clone, Copy)]
 pub enum Reply {
     Number(u32),
     Done,

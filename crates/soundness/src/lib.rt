@@ -25,7 +25,7 @@ const MIDDLE: usize = 256;
 const LARGE: usize = 2048;
 
 // What the test answers: sound, with the number of free nodes; or not.
-#[derive(Drop)]
+#[derive(Clone, Copy)]
 pub enum Tested {
     Sound(u32),
     Unsound,

@@ -15,48 +15,48 @@ use answers::{Entered, Refusal, enter};
 use arena::{MAX_HEIGHT, NOT_HELD, nodes_of, put_slot, slot_root, slot_size, slots_of};
 use nodes::count_up;
 
-#[derive(Drop)]
+#[derive(Clone, Copy)]
 pub enum SlotAnswer {
     Slot(u32),
     Refused(Refusal),
 }
 
-#[derive(Drop)]
+#[derive(Clone, Copy)]
 pub enum DoneAnswer {
     Done,
     Refused(Refusal),
 }
 
 // What a call that hands out a slot answers, and the free number after it.
-#[derive(Drop)]
+#[derive(Clone, Copy)]
 pub struct Handed {
     pub answer: SlotAnswer,
     pub free: u32,
 }
 
 // The same of release.
-#[derive(Drop)]
+#[derive(Clone, Copy)]
 pub struct GivenUp {
     pub answer: DoneAnswer,
     pub free: u32,
 }
 
 // The lowest slot not held, if there is one.
-#[derive(Drop)]
+#[derive(Clone, Copy)]
 pub enum FreeSlot {
     At(u32),
     AllHeld,
 }
 
 // The version that a call takes as its parent, and the slot that it hands out.
-#[derive(Drop)]
+#[derive(Clone, Copy)]
 pub struct Parent {
     pub root: u32,
     pub size: u32,
     pub out: u32,
 }
 
-#[derive(Drop)]
+#[derive(Clone, Copy)]
 pub enum Opened {
     Parent(Parent),
     Refused(Refusal),

@@ -16,7 +16,7 @@ use lookup::Found;
 use ranges::{Bound, Range};
 
 // RULES 7.1: what the caller keeps of a walk, by value.
-#[derive(Drop)]
+#[derive(Clone, Copy)]
 pub struct Walk {
     pub slot: u32,
     pub range: Range,
