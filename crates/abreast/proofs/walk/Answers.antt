@@ -9,7 +9,7 @@ pub loop-d-init : goal.loop-d-init
 loop-d-init c = search passes_start
 
 pub returns-then-not-alike : goal.returns-then-not-alike
-returns-then-not-alike c = search (passes_end, not-true)
+returns-then-not-alike c = search passes_end
 
 pub pop-next-requires : goal.pop-next-requires
 pop-next-requires c = search (
@@ -18,7 +18,6 @@ pop-next-requires c = search (
   c.head-one.ensures,
   c.head-other.ensures,
   c.alike.ensures,
-  not-false,
   c.if-not-alike.false,
 )
 
@@ -29,7 +28,6 @@ pop-other_next-requires c = search (
   c.head-one.ensures,
   c.head-other.ensures,
   c.alike.ensures,
-  not-false,
   c.if-not-alike.false,
 )
 
@@ -39,7 +37,7 @@ loop-d-smaller c = passes_falls
     c.head-one.ensures
     c.head-other.ensures
     c.alike.ensures
-    (not-false _ c.if-not-alike.false)
+    c.if-not-alike.false
     c.pop-next.ensures
 
 pub loop-d-preserved : goal.loop-d-preserved
@@ -48,7 +46,7 @@ loop-d-preserved c = passes_more
     c.head-one.ensures
     c.head-other.ensures
     c.alike.ensures
-    (not-false _ c.if-not-alike.false)
+    c.if-not-alike.false
     c.pop-next.ensures
     c.pop-other_next.ensures
     c.loop-d.invariant

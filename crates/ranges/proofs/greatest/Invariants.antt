@@ -1,5 +1,4 @@
 use borrow.Author.Rules.{rules}
-use mathlib.Core.Logic.{⊎_elim}
 use Rattle.trees.specs.Range.{before_back}
 use Rattle.trees.specs.Lookup.{greatest}
 use Rattle.lookup.proofs.Descents.{rooted_inside, rooted_high, lower}
