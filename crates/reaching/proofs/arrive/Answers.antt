@@ -1,4 +1,3 @@
-use borrow.Author.Rules.{rules}
 use Rattle.soundness_laws.proofs.Entering.{arrive_none, arrive_far, arrive_over, arrive_named, arrive_entered}
 use Rattle.reaching.proofs.arrive.Goals as goal
 

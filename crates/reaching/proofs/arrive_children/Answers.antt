@@ -1,4 +1,3 @@
-use borrow.Author.Rules.{rules}
 use Rattle.soundness_laws.proofs.Heading.{front_inside, front_no_left, front_asks_right, front_arrived}
 use Rattle.reaching.proofs.arrive_children.Goals as goal
 

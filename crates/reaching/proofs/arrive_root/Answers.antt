@@ -1,4 +1,3 @@
-use borrow.Author.Rules.{rules}
 use Rattle.soundness_laws.proofs.Rooting.{root_free, root_arrived}
 use Rattle.reaching.proofs.arrive_root.Goals as goal
 

@@ -1,7 +1,5 @@
-use Prim.Native.Nat.{◌-◌}
 use mathlib.Core.Path.{◌∙◌}
-use borrow.Author.Rules.{rules}
-use Rattle.soundness_laws.proofs.Looping.{RootsTo, stopping, roots_to_start, roots_to_slot, roots_to_more, roots_to_end}
+use Rattle.soundness_laws.proofs.Looping.{stopping, roots_to_start, roots_to_slot, roots_to_more, roots_to_end}
 use Rattle.reaching.proofs.arrive_roots.Goals as goal
 
 pub loop-s-init : goal.loop-s-init
@@ -11,10 +9,10 @@ pub arrive_root-tail-requires : goal.arrive_root-tail-requires
 arrive_root-tail-requires c = search roots_to_slot
 
 pub shape_of-names-then-tail : goal.shape_of-names-then-tail
-shape_of-names-then-tail c = c.arrive_root-tail.auto.1.1.0 ∙ c.loop-s.invariant.names_long
+shape_of-names-then-tail c = c.arrive_root-tail.auto.names ∙ c.loop-s.invariant.names_long
 
 pub shape_of-queue-then-tail : goal.shape_of-queue-then-tail
-shape_of-queue-then-tail c = c.arrive_root-tail.auto.1.1.1.0 ∙ c.loop-s.invariant.queue_long
+shape_of-queue-then-tail c = c.arrive_root-tail.auto.queue ∙ c.loop-s.invariant.queue_long
 
 pub returns-then-tail : goal.returns-then-tail
 returns-then-tail c = search stopping

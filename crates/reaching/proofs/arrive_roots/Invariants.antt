@@ -1,7 +1,5 @@
 use Prim.Native.Nat.{◌-◌}
-use mathlib.Core.Path.{◌∙◌}
-use borrow.Author.Rules.{rules}
-use Rattle.soundness_laws.proofs.Looping.{RootsTo, stopping, roots_to_start, roots_to_slot, roots_to_more, roots_to_end}
+use Rattle.soundness_laws.proofs.Looping.{RootsTo}
 use Rattle.reaching.proofs.arrive_roots.Given as goal
 
 abbrev pub invariant-loop-s : goal.invariant-loop-s

@@ -1,5 +1,4 @@
-use borrow.Author.Rules.{rules}
-use Rattle.soundness_laws.proofs.Sparing.{Walk, walk_start, walk_no, walk_inside, walk_more, walk_past, walk_end}
+use Rattle.soundness_laws.proofs.Sparing.{walk_start, walk_no, walk_inside, walk_more, walk_past, walk_end}
 use Rattle.reaching.proofs.free_list_right.Goals as goal
 
 pub loop-left-init : goal.loop-left-init

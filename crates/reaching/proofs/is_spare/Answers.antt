@@ -1,5 +1,4 @@
 use native.Mathlib.Omega.{arith}
-use borrow.Author.Rules.{rules}
 use Rattle.soundness_laws.proofs.Saying.{say_yes, say_no}
 use Rattle.reaching.proofs.is_spare.Goals as goal
 

@@ -1,4 +1,3 @@
-use borrow.Author.Rules.{rules}
 use Rattle.soundness_laws.proofs.Telling.{live_stopped, live_short, live_no, live_all}
 use Rattle.reaching.proofs.live_nodes.Goals as goal
 
