@@ -65,7 +65,7 @@ fn dive(
     q: usize,
 ) -> Depths
     requires stands { Stands ws.now i a.old p }
-    requires stands_2 { Stands ws.now j b.old q }
+    requires stands_other { Stands ws.now j b.old q }
     ensures { Meets ws.now i j a.old p b.old q a.new b.new result }
 {
     let mut i = i;
@@ -145,7 +145,7 @@ pub fn walk(
     q: usize,
 ) -> Heads
     requires stands { Stands ws.now i a.old p }
-    requires stands_2 { Stands ws.now j b.old q }
+    requires stands_other { Stands ws.now j b.old q }
     ensures { Parts (ahead ws.now i a.old p) (ahead ws.now j b.old q) result }
 {
     let mut i = i;
@@ -175,7 +175,7 @@ pub fn walk(
 // Where the versions whose roots are the links i and j part.
 pub fn part(ws: &[u32], i: u32, j: u32) -> Heads
     requires rooted { Rooted ws.now i max_height }
-    requires rooted_2 { Rooted ws.now j max_height }
+    requires rooted_other { Rooted ws.now j max_height }
     ensures { PartsBelow ws.now i j result }
 {
     let mut a = [0u32; STACK];

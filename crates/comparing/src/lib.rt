@@ -62,7 +62,7 @@ fn order_heads(h: Heads) -> Sign
 // The order of two versions, by their roots.
 fn compare_roots(ws: &[u32], i: u32, j: u32) -> Sign
     requires rooted { Rooted ws.now i max_height }
-    requires rooted_2 { Rooted ws.now j max_height }
+    requires rooted_other { Rooted ws.now j max_height }
     ensures { Compares ws.now i j result }
 {
     let h = part(ws, i, j);

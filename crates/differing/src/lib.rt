@@ -64,7 +64,7 @@ fn of_heads(h: Heads) -> DifferenceAnswer
 // What differs next between the versions whose roots are the links i and j.
 fn next_difference(ws: &[u32], i: u32, j: u32, last: LastKey) -> DifferenceAnswer
     requires ordered { Ordered ws.now i }
-    requires ordered_2 { Ordered ws.now j }
+    requires ordered_other { Ordered ws.now j }
     ensures { Differs ws.now i j (last_of last) result }
 {
     let mut a = [0u32; STACK];

@@ -105,7 +105,7 @@ pub fn new_version(ws: &mut [u32], free: u32) -> Handed
     requires sound { Sound ws.old }
     requires free_is { FreeIs ws.old free }
     ensures outcome { Outcome Call.new ws.old (slot_answer result.answer) ws.new }
-    ensures free_is_2 { FreeIs ws.new result.free }
+    ensures free_after { FreeIs ws.new result.free }
 {
     let FreeSlot::At(q) = lowest_slot(ws) else {
         return Handed {
@@ -136,7 +136,7 @@ pub fn hold(ws: &mut [u32], s: u32, free: u32) -> Handed
     requires sound { Sound ws.old }
     requires free_is { FreeIs ws.old free }
     ensures outcome { Outcome (Call.hold s) ws.old (slot_answer result.answer) ws.new }
-    ensures free_is_2 { FreeIs ws.new result.free }
+    ensures free_after { FreeIs ws.new result.free }
 {
     match open(ws, s) {
         Opened::Refused(r) => Handed {
@@ -158,7 +158,7 @@ pub fn release(ws: &mut [u32], s: u32, free: u32) -> GivenUp
     requires sound { Sound ws.old }
     requires free_is { FreeIs ws.old free }
     ensures outcome { Outcome (Call.release s) ws.old (done_answer result.answer) ws.new }
-    ensures free_is_2 { FreeIs ws.new result.free }
+    ensures free_after { FreeIs ws.new result.free }
 {
     match enter(ws, s) {
         Entered::Refused(r) => GivenUp {

@@ -91,7 +91,7 @@ pub fn insert(ws: &mut [u32], s: u32, e: Entry, free: u32) -> Handed
     requires sound { Sound ws.old }
     requires free_is { FreeIs ws.old free }
     ensures outcome { Outcome (Call.insert s (entry_of e)) ws.old (slot_answer result.answer) ws.new }
-    ensures free_is_2 { FreeIs ws.new result.free }
+    ensures free_after { FreeIs ws.new result.free }
 {
     match open(ws, s) {
         Opened::Refused(r) => Handed {
@@ -120,7 +120,7 @@ pub fn remove(ws: &mut [u32], s: u32, key: u32, free: u32) -> Handed
     requires sound { Sound ws.old }
     requires free_is { FreeIs ws.old free }
     ensures outcome { Outcome (Call.remove s key) ws.old (slot_answer result.answer) ws.new }
-    ensures free_is_2 { FreeIs ws.new result.free }
+    ensures free_after { FreeIs ws.new result.free }
 {
     match open(ws, s) {
         Opened::Refused(r) => Handed {

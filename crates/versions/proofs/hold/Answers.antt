@@ -7,7 +7,7 @@ pub share-requires : goal.share-requires
 share-requires c = search parents
 
 pub returns-in-Refused : goal.returns-in-Refused
-returns-in-Refused c = (search hold_refused, search rules)
+returns-in-Refused c = record { outcome = search hold_refused; free_after = search rules }
 
 pub returns-in-Parent : goal.returns-in-Parent
-returns-in-Parent c = (search hold_told, search hold_free)
+returns-in-Parent c = record { outcome = search hold_told; free_after = search hold_free }

@@ -4,7 +4,7 @@ use Rattle.versions.proofs.Handing.{new_refused, new_inside, new_told, new_free}
 use Rattle.versions.proofs.new_version.Goals as goal
 
 pub returns-in_default : goal.returns-in_default
-returns-in_default c = (search new_refused, search rules)
+returns-in_default c = record { outcome = search new_refused; free_after = search rules }
 
 pub nodes_of-n-requires : goal.nodes_of-n-requires
 nodes_of-n-requires c = search header_inside
@@ -13,4 +13,4 @@ pub put_slot-requires : goal.put_slot-requires
 put_slot-requires c = search new_inside
 
 pub returns : goal.returns
-returns c = (search new_told, search new_free)
+returns c = record { outcome = search new_told; free_after = search new_free }

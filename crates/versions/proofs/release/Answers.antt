@@ -16,7 +16,7 @@ pub overflow_add-all : goal.overflow_add-all
 overflow_add-all c = search release_fits
 
 pub returns-in-Refused : goal.returns-in-Refused
-returns-in-Refused c = (search release_refused, search rules)
+returns-in-Refused c = record { outcome = search release_refused; free_after = search rules }
 
 pub returns-in-Root : goal.returns-in-Root
-returns-in-Root c = (search release_told, search release_free)
+returns-in-Root c = record { outcome = search release_told; free_after = search release_free }
