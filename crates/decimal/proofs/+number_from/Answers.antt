@@ -1,8 +1,8 @@
+use mathlib.Core.Path.{ap}
+use mathlib.Core.Bool.{not}
 use borrow.Author.Rules.{rules}
 use native.Mathlib.Omega.{arith}
-use lib.ListN.{length}
 use Rattle.decimal.proofs.Finding.{digit_from, digit_to, from_end, from_no_digit, from_leading, from_too_large, from_on}
-use Prim.Native.Nat.{ℕ, ◌-◌, ◌<◌}
 use Rattle.decimal.proofs.+number_from.Goals as goal
 
 pub returns-then-line-at : goal.returns-then-line-at
@@ -15,7 +15,7 @@ pub returns-then-value-eq0 : goal.returns-then-value-eq0
 returns-then-value-eq0 t c = search from_leading
 
 pub with_digit-more-requires : goal.with_digit-more-requires
-with_digit-more-requires t c = (digit_from _ _ c.is_digit.ensures c.if-not-is_digit.false, digit_to _ _ c.is_digit.ensures c.if-not-is_digit.false)
+with_digit-more-requires t c = (digit_from _ _ c.is_digit.ensures (ap not c.if-not-is_digit.false), digit_to _ _ c.is_digit.ensures (ap not c.if-not-is_digit.false))
 
 pub returns-then-more-gt-LARGEST : goal.returns-then-more-gt-LARGEST
 returns-then-more-gt-LARGEST t c = search from_too_large
