@@ -1,10 +1,8 @@
-use borrow.Author.Rules.{rules}
-use native.Mathlib.Omega.{arith}
-use lib.ListN.{length}
 use mathlib.Core.Path.{ap}
 use mathlib.Core.Bool.{not}
+use borrow.Author.Rules.{rules}
+use native.Mathlib.Omega.{arith}
 use Rattle.decimal.proofs.Finding.{digit_from, digit_to, from_end, from_no_digit, from_leading, from_too_large, from_on}
-use Prim.Native.Nat.{ℕ, ◌-◌, ◌<◌}
 use Rattle.decimal.proofs.+number_from.Goals as goal
 
 pub returns-then-line-at : goal.returns-then-line-at

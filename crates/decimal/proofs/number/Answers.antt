@@ -1,4 +1,3 @@
-use borrow.Author.Rules.{rules}
 use Rattle.decimal.proofs.Finding.{digit_from, digit_to, number_end, number_no_digit, number_on}
 use Rattle.decimal.proofs.number.Goals as goal
 

@@ -1,8 +1,6 @@
 use Prim.Native.Nat.{◌-◌}
-use native.Mathlib.Omega.{arith}
 use lib.ListN.{length}
-use borrow.Author.Rules.{rules}
-use Rattle.decimal.proofs.Writing.{Putting, putting_none, putting_length, putting_more, putting_all}
+use Rattle.decimal.proofs.Writing.{Putting}
 use Rattle.decimal.proofs.put_text.Given as goal
 
 abbrev pub invariant-loop-k : goal.invariant-loop-k
