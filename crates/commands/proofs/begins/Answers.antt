@@ -1,7 +1,4 @@
-use Prim.Native.Nat.{◌-◌}
-use lib.ListN.{length}
-use borrow.Author.Rules.{rules}
-use Rattle.commands.proofs.Beginning.{Agreeing, too_short, agreeing_none, agreeing_more, agreeing_differs, agreeing_all}
+use Rattle.commands.proofs.Beginning.{too_short, agreeing_none, agreeing_more, agreeing_differs, agreeing_all}
 use Rattle.commands.proofs.begins.Goals as goal
 
 pub returns-then-line-word : goal.returns-then-line-word

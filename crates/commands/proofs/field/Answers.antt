@@ -1,4 +1,3 @@
-use borrow.Author.Rules.{rules}
 use Rattle.commands.proofs.Finding.{field_end, field_no_space, field_on}
 use Rattle.commands.proofs.field.Goals as goal
 

@@ -1,4 +1,3 @@
-use borrow.Author.Rules.{rules}
 use Rattle.commands.proofs.Finding.{one_none, one_longer, one_last}
 use Rattle.commands.proofs.last_one.Goals as goal
 

@@ -1,4 +1,3 @@
-use borrow.Author.Rules.{rules}
 use Rattle.commands.proofs.Finding.{three_none, three_one, three_all}
 use Rattle.commands.proofs.last_three.Goals as goal
 

@@ -1,4 +1,3 @@
-use borrow.Author.Rules.{rules}
 use Rattle.commands.proofs.Finding.{two_none, two_one, two_both}
 use Rattle.commands.proofs.last_two.Goals as goal
 

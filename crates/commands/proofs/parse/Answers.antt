@@ -1,5 +1,4 @@
 use mathlib.Core.Path.{sym, ◌∙◌}
-use borrow.Author.Rules.{rules}
 use Rattle.commands.proofs.Parsing.{new_read, hold_read, set_read, cut_read, drop_read, get_read, list_read, none_read}
 use Rattle.commands.proofs.parse.Goals as goal
 

@@ -1,4 +1,3 @@
-use borrow.Author.Rules.{rules}
 use Rattle.commands.proofs.Says.{cut_said}
 use Rattle.commands.proofs.says_cut.Goals as goal
 

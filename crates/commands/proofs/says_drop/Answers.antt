@@ -1,4 +1,3 @@
-use borrow.Author.Rules.{rules}
 use Rattle.commands.proofs.Says.{drop_said}
 use Rattle.commands.proofs.says_drop.Goals as goal
 

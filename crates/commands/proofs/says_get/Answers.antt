@@ -1,4 +1,3 @@
-use borrow.Author.Rules.{rules}
 use Rattle.commands.proofs.Says.{get_said}
 use Rattle.commands.proofs.says_get.Goals as goal
 

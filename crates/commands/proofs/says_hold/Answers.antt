@@ -1,4 +1,3 @@
-use borrow.Author.Rules.{rules}
 use Rattle.commands.proofs.Says.{hold_said}
 use Rattle.commands.proofs.says_hold.Goals as goal
 

@@ -1,4 +1,3 @@
-use borrow.Author.Rules.{rules}
 use Rattle.commands.proofs.Says.{list_said}
 use Rattle.commands.proofs.says_list.Goals as goal
 

@@ -1,4 +1,3 @@
-use borrow.Author.Rules.{rules}
 use Rattle.commands.proofs.Says.{set_said}
 use Rattle.commands.proofs.says_set.Goals as goal
 

@@ -1,4 +1,3 @@
-use borrow.Author.Rules.{rules}
 use native.Mathlib.Omega.{arith}
 use Rattle.decimal.proofs.Writing.{written_length, written_both}
 use Rattle.replies.proofs.put_refused.Goals as goal

@@ -1,4 +1,3 @@
-use borrow.Author.Rules.{rules}
 use Rattle.replies.proofs.Replied.{number_replied, done_replied, refused_replied, entry_replied, end_replied, unknown_replied}
 use Rattle.replies.proofs.put_reply.Goals as goal
 

@@ -11,11 +11,5 @@ returns-then-l-r c = say_no (λ f. c.if-l-r.true f.even)
 pub returns-then-color-eq-BLACK : goal.returns-then-color-eq-BLACK
 returns-then-color-eq-BLACK c = say_yes (record { known = omega arith; even = c.if-l-r.false; left = λ z. omega arith; right = λ z. omega arith })
 
-pub returns-then-l-eq-RED : goal.returns-then-l-eq-RED
-returns-then-l-eq-RED c = say_no (λ f. f.left (omega arith) c.if-l-eq-RED.true)
-
-pub returns-then-r-eq-RED : goal.returns-then-r-eq-RED
-returns-then-r-eq-RED c = say_no (λ f. f.right (omega arith) c.if-r-eq-RED.true)
-
 pub returns : goal.returns
-returns c = say_yes (record { known = omega arith; even = c.if-l-r.false; left = λ _. c.if-l-eq-RED.false; right = λ _. c.if-r-eq-RED.false })
+returns c = say_yes (record { known = omega arith; even = c.if-l-r.false; left = λ _ e. omega arith; right = λ _ e. omega arith })
