@@ -25,7 +25,7 @@ pub struct Put {
 fn settle(ws: &[u32], plan: &mut [u32], x: Node, new: bool) -> u32
     requires room { Room ws.now plan.old balance_room }
     requires some { Some ws.now plan.old x.left }
-    requires some_2 { Some ws.now plan.old x.right }
+    requires some_right { Some ws.now plan.old x.right }
     ensures { Steps ws.now plan.old plan.new balance_room x result (settleOf (not new)) }
 {
     if new {

@@ -18,7 +18,7 @@ use planning::{paint, push};
 pub fn remove_balance(ws: &[u32], plan: &mut [u32], x: Node) -> u32
     requires room { Room ws.now plan.old balance_room }
     requires some { Some ws.now plan.old x.left }
-    requires some_2 { Some ws.now plan.old x.right }
+    requires some_right { Some ws.now plan.old x.right }
     ensures { Steps ws.now plan.old plan.new balance_room x result remove_balance }
 {
     let l = look(ws, plan, x.left);

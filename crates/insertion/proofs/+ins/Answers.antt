@@ -13,7 +13,7 @@ pub ins-l-requires : goal.ins-l-requires
 ins-l-requires t c = (search less_down, (search room_down, search held_left))
 
 pub settle-requires : goal.settle-requires
-settle-requires t c = record { room = search room_up; some = search some_turned; some_2 = search some_kept }
+settle-requires t c = record { room = search room_up; some = search some_turned; some_right = search some_kept }
 
 pub returns-then-e-x : goal.returns-then-e-x
 returns-then-e-x t c = record { turns = search ins_left; news = search news_left }
@@ -25,7 +25,7 @@ pub ins-r-requires : goal.ins-r-requires
 ins-r-requires t c = (search less_down, (search room_down, search held_right))
 
 pub settle-requires-then-x-e : goal.settle-requires-then-x-e
-settle-requires-then-x-e t c = record { room = search (room_up, c.requires.held, c.requires.room); some = search some_kept; some_2 = search some_turned }
+settle-requires-then-x-e t c = record { room = search (room_up, c.requires.held, c.requires.room); some = search some_kept; some_right = search some_turned }
 
 pub returns-then-x-e : goal.returns-then-x-e
 returns-then-x-e t c = record { turns = search (ins_right, c.requires.held); news = search news_right }

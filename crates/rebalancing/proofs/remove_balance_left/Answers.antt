@@ -9,7 +9,7 @@ pub remove_balance-requires : goal.remove_balance-requires
 remove_balance-requires c = record {
   room = room_painted c.paint-then-r-eq-BLACK.ensures c.requires.room;
   some = some_beside c.paint-then-r-eq-BLACK.ensures c.requires.some;
-  some_2 = search (some_painted, c.requires.leans.some);
+  some_right = search (some_painted, c.requires.leans.some);
 }
 
 pub returns-then-r-eq-BLACK : goal.returns-then-r-eq-BLACK

@@ -9,7 +9,7 @@ pub remove_balance-requires : goal.remove_balance-requires
 remove_balance-requires c = record {
   room = room_painted c.paint-then-l-eq-BLACK.ensures c.requires.room;
   some = search (some_painted, c.requires.leans.some);
-  some_2 = some_beside c.paint-then-l-eq-BLACK.ensures c.requires.some;
+  some_right = some_beside c.paint-then-l-eq-BLACK.ensures c.requires.some;
 }
 
 pub returns-then-l-eq-BLACK : goal.returns-then-l-eq-BLACK
