@@ -2,6 +2,8 @@
 // numbers, top last: each node's entry and then its right part are still to come. Where both sides
 // stand at one link both list alike, and the link is passed over. The one side has the link i and p
 // numbers on the stack a, the other side the link j and q numbers on the stack b.
+#![tactic(auto)]
+
 ghost use Rattle.std.specs.Prelude.{◌≡◌};
 ghost use Rattle.words.specs.Layout.{max_height};
 ghost use Rattle.lookup.specs.Finding.{found_of, Rooted};
@@ -16,21 +18,21 @@ use lookup::Found;
 pub const STACK: usize = MAX_HEIGHT as usize + 1;
 
 // A side after a step: its link, and how many numbers its stack has.
-#[derive(Drop)]
+#[derive(Clone, Copy)]
 pub struct Side {
     pub link: u32,
     pub depth: usize,
 }
 
 // How many numbers the two stacks have.
-#[derive(Drop)]
+#[derive(Clone, Copy)]
 pub struct Depths {
     pub one: usize,
     pub other: usize,
 }
 
 // What comes next on both sides, where they part.
-#[derive(Drop)]
+#[derive(Clone, Copy)]
 pub struct Heads {
     pub one: Found,
     pub other: Found,
@@ -63,7 +65,7 @@ fn dive(
     q: usize,
 ) -> Depths
     requires stands { Stands ws.now i a.old p }
-    requires stands_2 { Stands ws.now j b.old q }
+    requires stands_other { Stands ws.now j b.old q }
     ensures { Meets ws.now i j a.old p b.old q a.new b.new result }
 {
     let mut i = i;
@@ -143,7 +145,7 @@ pub fn walk(
     q: usize,
 ) -> Heads
     requires stands { Stands ws.now i a.old p }
-    requires stands_2 { Stands ws.now j b.old q }
+    requires stands_other { Stands ws.now j b.old q }
     ensures { Parts (ahead ws.now i a.old p) (ahead ws.now j b.old q) result }
 {
     let mut i = i;
@@ -173,7 +175,7 @@ pub fn walk(
 // Where the versions whose roots are the links i and j part.
 pub fn part(ws: &[u32], i: u32, j: u32) -> Heads
     requires rooted { Rooted ws.now i max_height }
-    requires rooted_2 { Rooted ws.now j max_height }
+    requires rooted_other { Rooted ws.now j max_height }
     ensures { PartsBelow ws.now i j result }
 {
     let mut a = [0u32; STACK];

@@ -1,5 +1,7 @@
 // What the program makes of a command, RULES 9.6 to 9.13: the call, and the reply to what the call
 // answers.
+#![tactic(auto)]
+
 ghost use Rattle.std.specs.Prelude.{◌≡◌};
 ghost use Rattle.trees.specs.Range.{front as atFront};
 ghost use Rattle.words.specs.Sound.{Sound};

@@ -1,5 +1,7 @@
 // The refusals, what the calls that read answer, and the way into the version of a slot, on a sound
 // arena.
+#![tactic(auto)]
+
 ghost use Rattle.std.specs.Prelude.{◌≡◌};
 ghost use Rattle.words.specs.Sound.{Sound};
 ghost use Rattle.answers.specs.Answers.{refusal_number};
@@ -8,7 +10,7 @@ ghost use Rattle.answers.specs.Entering.{Enters};
 use arena::{Entry, NOT_HELD, nodes_of, slot_root, slots_of};
 
 // The refusals, in the order of the table of RULES 4.22 to 4.29.
-#[derive(Drop)]
+#[derive(Clone, Copy)]
 pub enum Refusal {
     BadShape,
     Unsound,
@@ -36,39 +38,39 @@ pub fn number(r: Refusal) -> u32
     }
 }
 
-#[derive(Drop)]
+#[derive(Clone, Copy)]
 pub enum NumberAnswer {
     Number(u32),
     Refused(Refusal),
 }
 
-#[derive(Drop)]
+#[derive(Clone, Copy)]
 pub enum ValueAnswer {
     Value(u32),
     Refused(Refusal),
 }
 
-#[derive(Drop)]
+#[derive(Clone, Copy)]
 pub enum EntryAnswer {
     Entry(Entry),
     Refused(Refusal),
 }
 
-#[derive(Drop)]
+#[derive(Clone, Copy)]
 pub enum TruthAnswer {
     Truth(bool),
     Refused(Refusal),
 }
 
 // RULES 8.1: -1, 0 or 1.
-#[derive(Drop)]
+#[derive(Clone, Copy)]
 pub enum Sign {
     Less,
     Same,
     More,
 }
 
-#[derive(Drop)]
+#[derive(Clone, Copy)]
 pub enum SignAnswer {
     Sign(Sign),
     Refused(Refusal),
@@ -76,21 +78,21 @@ pub enum SignAnswer {
 
 // RULES 8.7: at a tag only the first version has an entry, only the second, or both, and not the
 // same.
-#[derive(Drop)]
+#[derive(Clone, Copy)]
 pub enum Difference {
     OnlyFirst(Entry),
     OnlySecond(Entry),
     InBoth(Entry, Entry),
 }
 
-#[derive(Drop)]
+#[derive(Clone, Copy)]
 pub enum DifferenceAnswer {
     Difference(Difference),
     Refused(Refusal),
 }
 
 // The root of a slot's version.
-#[derive(Drop)]
+#[derive(Clone, Copy)]
 pub enum Entered {
     Root(u32),
     Refused(Refusal),

@@ -1,4 +1,6 @@
 // The arena's words: nodes as they are read, and the slots. Module 2 (RULES 6.2), with `nodes`.
+#![tactic(auto)]
+
 ghost use Rattle.std.specs.Prelude.{◌≡◌, ◌≤◌, length};
 ghost use Rattle.words.specs.Layout.{nodes, slots, head, left, right, count, slot_root, slot_size};
 ghost use Rattle.words.specs.Model.{slotting};
@@ -50,14 +52,14 @@ const ROOT_WORD: usize = 8;
 const SIZE_WORD: usize = 9;
 
 // A tag and the position of its value.
-#[derive(Drop)]
+#[derive(Clone, Copy)]
 pub struct Entry {
     pub key: u32,
     pub value: u32,
 }
 
 // A node's words but its count. A link is 0 for none; a colour is 0 for red, 1 for black.
-#[derive(Drop)]
+#[derive(Clone, Copy)]
 pub struct Node {
     pub entry: Entry,
     pub left: u32,

@@ -1,4 +1,6 @@
 // 000's `balance` on a read-only arena and a plan. Module 4 (RULES 6.5).
+#![tactic(auto)]
+
 ghost use Rattle.std.specs.Prelude.{◌≡◌};
 ghost use Rattle.trees.specs.Insert.{balance as balanceOf};
 ghost use Rattle.plan.specs.Held.{Some, Room};
@@ -58,7 +60,7 @@ fn balance_black(ws: &[u32], plan: &mut [u32], x: Node) -> u32
     requires room { Room ws.now plan.old balance_room }
     requires color_value { x.color ≡ 1 }
     requires some { Some ws.now plan.old x.left }
-    requires some_2 { Some ws.now plan.old x.right }
+    requires some_right { Some ws.now plan.old x.right }
     ensures { Steps ws.now plan.old plan.new balance_room x result balanceOf }
 {
     let l = look(ws, plan, x.left);
@@ -83,7 +85,7 @@ fn balance_black(ws: &[u32], plan: &mut [u32], x: Node) -> u32
 pub fn balance(ws: &[u32], plan: &mut [u32], x: Node) -> u32
     requires room { Room ws.now plan.old balance_room }
     requires some { Some ws.now plan.old x.left }
-    requires some_2 { Some ws.now plan.old x.right }
+    requires some_right { Some ws.now plan.old x.right }
     ensures { Steps ws.now plan.old plan.new balance_room x result balanceOf }
 {
     if x.color == BLACK {

@@ -127,7 +127,7 @@ module _ {isNew : ℕ → Bool} {q : ℕ} {ws ws' : List ℕ} (T : Towards isNew
       let w : b'.all' ≡ b.all' = version_one (subst (λ (s : ℕ). VersionIs ws' s b'.all') (e' ∙ sym e) b'.version') b.version' in
       let key : (entry ws' j).key ≡ (entry ws' k).key = ap (λ (x : Entry). x.key) (m.entry_is ∙ sym m'.entry_is) in
       kept_same
-      (part_key (version_fine T.sound' b.version').ordered a.part (subst (λ (u : Tree). Part u (node (kept k) a'.color a'.lt (entry ws' k) a'.rt)) w a'.part) key)
+      (part_key a.part (subst (λ (u : Tree). Part u (node (kept k) a'.color a'.lt (entry ws' k) a'.rt)) w a'.part) (version_fine T.sound' b.version').ordered key)
 
   pub twin_one : (i j k : ℕ) → Twins ws ws' i j → Twins ws ws' i k → j ≡ k
   twin_one i j k t t' =

@@ -137,7 +137,7 @@ steps_one {xs} {ys} (Steps.given {d = d} {ds = ds} e g) (Steps.given {d = c} {ds
     let i = steps_one g (subst (λ (b : Difference). Steps xs ys (some (tag_of b)) cs) z h) in
     cc
 
-audited_steps : {x : Differences} {xs ys : List Entry} {ds : List Difference} → Audited xs ys x ds → Steps xs ys x.given ds
+audited_steps : {xs ys : List Entry} {x : Differences} {ds : List Difference} → Audited xs ys x ds → Steps xs ys x.given ds
 audited_steps (Audited.ended B o) = Steps.ended (difference_ended B o)
 audited_steps (Audited.given B o g) = Steps.given (difference_next B o) (audited_steps g)
 
@@ -152,7 +152,7 @@ audited {xs = xs} {ys = ys} g = steps_one (audited_steps g) (go g)
     go (Audited.given B o h) = differences_walked xs ys (first_ascends B) (second_ascends B)
 
 -- And there is such an audit, on any words on which the two slots list so.
-steps_audited : {ws : List ℕ} {x : Differences} {xs ys : List Entry} {o : Option ℕ} {ds : List Difference} → BothList ws x xs ys → x.given ≡ o →
+steps_audited : {ws : List ℕ} {xs ys : List Entry} {x : Differences} {o : Option ℕ} {ds : List Difference} → BothList ws x xs ys → x.given ≡ o →
     Steps xs ys o ds → Audited xs ys x ds
 steps_audited {xs = xs} {ys = ys} B e (Steps.ended n) = Audited.ended B (told_as B (ap (λ (k : Option ℕ). next_difference k xs ys) e ∙ n))
 steps_audited {xs = xs} {ys = ys} B e (Steps.given n g) =

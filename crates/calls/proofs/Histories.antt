@@ -95,10 +95,14 @@ answer_refuses {c} {ws} {r} {ws'} o = go (either o)
 pub formats_keep : {n v : ℕ} {old ws : List ℕ} → Outcome (Call.format n v) old Answer.done ws → Keeps ws (no_versions n v)
 formats_keep o = formatted_keeps (answer_accepts o λ r e. let z : ◌≡◌ {A = ℕ} 0 1 = cc in omega arith)
 
+-- By the calls, with what they start from before where they lead.
+calls_from : {ws : List ℕ} {m : Model} {ws' : List ℕ} {m' : Model} → Keeps ws m → Calls ws m ws' m' → Keeps ws' m'
+calls_from K Calls.no_call = K
+calls_from K (Calls.call h o) = step_keeps (calls_from K h) o
+
 -- However a history starts.
 pub calls_keep : {ws ws' : List ℕ} {m m' : Model} → Keeps ws m → Calls ws m ws' m' → Keeps ws' m'
-calls_keep K Calls.no_call = K
-calls_keep K (Calls.call h o) = step_keeps (calls_keep K h) o
+calls_keep K h = calls_from K h
 
 pub history : {ws : List ℕ} {m : Model} → History ws m → Keeps ws m
 history h = calls_keep (formats_keep h.formats) h.calls

@@ -51,40 +51,40 @@ part_above k (in_left {l = l} {r = r} {e = e} a) b = part_above k a (above_middl
 part_above k (in_right {l = l} {r = r} {e = e} a) b = part_above k a (above_middle k (listing l) e (listing r) b).2
 
 -- Nodes with one key are at one place.
-pub part_key : {t l r l' r' : Tree} {p p' : Place} {c c' : Color} {e e' : Entry} → Ascending (listing t) → Part t (node p c l e r) →
-    Part t (node p' c' l' e' r') → e.key ≡ e'.key → p ≡ p'
-part_key o (whole {t = node p c l e r}) whole k = refl
-part_key o (whole {t = node p c l e r}) (in_left b) k =
+pub part_key : {t l r l' r' : Tree} {p p' : Place} {c c' : Color} {e e' : Entry} → Part t (node p c l e r) →
+    Part t (node p' c' l' e' r') → Ascending (listing t) → e.key ≡ e'.key → p ≡ p'
+part_key (whole {t = node p c l e r}) whole o k = refl
+part_key (whole {t = node p c l e r}) (in_left b) o k =
     absurd (omega (arith, part_below e.key b (split (listing l) e (listing r) o).below))
-part_key o (whole {t = node p c l e r}) (in_right b) k =
+part_key (whole {t = node p c l e r}) (in_right b) o k =
     absurd (omega (arith, part_above e.key b (split (listing l) e (listing r) o).above))
-part_key o (in_left {l = l} {r = r} {e = e} a) whole k =
+part_key (in_left {l = l} {r = r} {e = e} a) whole o k =
     absurd (omega (arith, part_below e.key a (split (listing l) e (listing r) o).below))
-part_key o (in_left {l = l} {r = r} {e = e} a) (in_left b) k = part_key (split (listing l) e (listing r) o).before a b k
-part_key o (in_left {l = l} {r = r} {e = e} a) (in_right b) k =
+part_key (in_left {l = l} {r = r} {e = e} a) (in_left b) o k = part_key a b (split (listing l) e (listing r) o).before k
+part_key (in_left {l = l} {r = r} {e = e} a) (in_right b) o k =
     let s = split (listing l) e (listing r) o in
     absurd (omega (arith, part_below e.key a s.below, part_above e.key b s.above))
-part_key o (in_right {l = l} {r = r} {e = e} a) whole k =
+part_key (in_right {l = l} {r = r} {e = e} a) whole o k =
     absurd (omega (arith, part_above e.key a (split (listing l) e (listing r) o).above))
-part_key o (in_right {l = l} {r = r} {e = e} a) (in_left b) k =
+part_key (in_right {l = l} {r = r} {e = e} a) (in_left b) o k =
     let s = split (listing l) e (listing r) o in
     absurd (omega (arith, part_above e.key a s.above, part_below e.key b s.below))
-part_key o (in_right {l = l} {r = r} {e = e} a) (in_right b) k = part_key (split (listing l) e (listing r) o).after a b k
+part_key (in_right {l = l} {r = r} {e = e} a) (in_right b) o k = part_key a b (split (listing l) e (listing r) o).after k
 
 -- The nodes of a tree at a live link are live.
 module _ (Valid : ℕ → Tree → ℕ → Type 0) (n v : ℕ) (ws P : List ℕ) (o : Owned Valid n v ws P) where
-  pub part_live : {t l r : Tree} {p : Place} {c : Color} {e : Entry} (i : ℕ) → (i ≡ 0) ⊎ Live n ws i → Reads n ws i t → Part t (node p c l e r) →
+  pub part_live : {t l r : Tree} {p : Place} {c : Color} {e : Entry} (i : ℕ) → Part t (node p c l e r) → (i ≡ 0) ⊎ Live n ws i → Reads n ws i t →
       (j : ℕ) × (p ≡ kept j) × Live n ws j
-  part_live i m h (whole {t = node p c l e r}) = (i, h.0, ⊎_elim (λ z. absurd (omega (arith, h.1.low))) (λ a. a) m)
-  part_live i m h (in_left a) =
-      part_live (left ws i) (⊎_elim (λ z. absurd (omega (arith, h.1.low))) (live_left Valid n v ws P o i) m) h.2 a
-  part_live i m h (in_right a) =
-      part_live (right ws i) (⊎_elim (λ z. absurd (omega (arith, h.1.low))) (live_right Valid n v ws P o i) m) h.3 a
+  part_live i (whole {t = node p c l e r}) m h = (i, h.0, ⊎_elim (λ z. absurd (omega (arith, h.1.low))) (λ a. a) m)
+  part_live i (in_left a) m h =
+      part_live (left ws i) a (⊎_elim (λ z. absurd (omega (arith, h.1.low))) (live_left Valid n v ws P o i) m) h.2
+  part_live i (in_right a) m h =
+      part_live (right ws i) a (⊎_elim (λ z. absurd (omega (arith, h.1.low))) (live_right Valid n v ws P o i) m) h.3
 
 pub version_part : {ws : List ℕ} {s : ℕ} {t l r : Tree} {p : Place} {c : Color} {e : Entry} → Sound ws → VersionIs ws s t →
     Part t (node p c l e r) → (j : ℕ) × (p ≡ kept j) × Live (nodes ws) ws j
 version_part {ws} {s} S x a =
-    part_live Sized (nodes ws) (slots ws) ws [] (sound_owned ws S) (slot_root (nodes ws) ws s) (version_root S x) x.reads a
+    part_live Sized (nodes ws) (slots ws) ws [] (sound_owned ws S) (slot_root (nodes ws) ws s) a (version_root S x) x.reads
 
 pub kept_same : {i j : ℕ} → kept i ≡ kept j → i ≡ j
 kept_same e = cc

@@ -74,6 +74,7 @@ ended {ws} {d = d} {w = w} o = go (answer_refuses o).0
 
     go : First ws (Call.step d w) Refusal.ended (tests (Call.step d w)) → Ended ws d w
     go (First.later a (First.later b (First.later n (First.here g)))) = last n g
+    go (First.later a (First.later b (First.later n (First.later m f)))) = elim f [ ]
 
 -- "After END both ends answer END, the version being unchanged": in any sound arena in which the
 -- slot lists the same.

@@ -5,7 +5,7 @@ use mathlib.Core.Bool.{Bool, true, false}
 use mathlib.Core.List.{List}
 use mathlib.Core.Option.{Option, none, some}
 use Prim.Native.Nat.{ℕ}
-use Rattle.trees.specs.Tree.{Entry, Tree, listing, size}
+use Rattle.trees.specs.Tree.{Entry, Tree, listing}
 use Rattle.trees.specs.Listing.{find, first_of, last_of}
 use Rattle.trees.specs.Range.{End, next, is_bad_range}
 use Rattle.trees.specs.Order

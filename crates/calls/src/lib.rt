@@ -1,1 +1,2 @@
 // No functions: the definitions stand in specs/, their laws in proofs/.
+#![tactic(auto)]

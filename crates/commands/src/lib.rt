@@ -1,4 +1,6 @@
 // The commands of the program, RULES 9.6 to 9.12: a line taken apart.
+#![tactic(auto)]
+
 ghost use Rattle.std.specs.Prelude.{◌≡◌, drop};
 ghost use Rattle.decimal.specs.Numbers.{Finds};
 ghost use Rattle.commands.specs.Parts.{begins as beginsWith, field as fieldIn, one_in, two_in, three_in};
@@ -8,7 +10,7 @@ ghost use Rattle.commands.specs.Text.{Reads};
 use decimal::{Found, number};
 
 // A command, by its numbers in the order of the line.
-#[derive(Drop)]
+#[derive(Clone, Copy)]
 pub enum Command {
     New,
     Hold(u32),
@@ -20,26 +22,26 @@ pub enum Command {
 }
 
 // What a line says.
-#[derive(Drop)]
+#[derive(Clone, Copy)]
 pub enum Line {
     Says(Command),
     Unknown,
 }
 
 // So many numbers up to the line's end.
-#[derive(Drop)]
+#[derive(Clone, Copy)]
 enum One {
     Number(u32),
     Wrong,
 }
 
-#[derive(Drop)]
+#[derive(Clone, Copy)]
 enum Two {
     Numbers(u32, u32),
     Wrong,
 }
 
-#[derive(Drop)]
+#[derive(Clone, Copy)]
 enum Three {
     Numbers(u32, u32, u32),
     Wrong,

@@ -1,4 +1,6 @@
 // The commit of a planned tree: its fresh nodes are counted, the kept nodes that it names are counted up, and the fresh ones are made bottom up.
+#![tactic(auto)]
+
 ghost use Rattle.commit.specs.Planned.{Countable, Counts, Raisable, Raises, Buildable, Builds};
 
 use nodes::{count_up, make_node};

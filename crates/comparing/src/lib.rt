@@ -1,5 +1,7 @@
 // Compare and equal, RULES 8.1 to 8.3, on a sound arena: both versions are walked side by side, and
 // where they part the next entries decide.
+#![tactic(auto)]
+
 ghost use Rattle.std.specs.Prelude.{◌≡◌};
 ghost use Rattle.words.specs.Layout.{max_height};
 ghost use Rattle.words.specs.Sound.{Sound};
@@ -60,7 +62,7 @@ fn order_heads(h: Heads) -> Sign
 // The order of two versions, by their roots.
 fn compare_roots(ws: &[u32], i: u32, j: u32) -> Sign
     requires rooted { Rooted ws.now i max_height }
-    requires rooted_2 { Rooted ws.now j max_height }
+    requires rooted_other { Rooted ws.now j max_height }
     ensures { Compares ws.now i j result }
 {
     let h = part(ws, i, j);

@@ -1,11 +1,13 @@
 // The decimal text of a number, read and written at a place.
+#![tactic(auto)]
+
 ghost use Rattle.std.specs.Prelude.{◌≡◌, ◌+◌, ◌-◌, ◌*◌, ◌≤◌, ◌<◌, drop};
 ghost use Rattle.decimal.specs.Decimal.{digit, digits};
 ghost use Rattle.decimal.specs.Numbers.{is_digit, number_from, number as number_in, Finds};
 ghost use Rattle.decimal.specs.Written.{HasRoom, Written};
 
 // A number and the place after it, where one stands.
-#[derive(Drop)]
+#[derive(Clone, Copy)]
 pub enum Found {
     Number(u32, usize),
     Nothing,

@@ -1,5 +1,7 @@
 // The difference step, RULES 4.41 and 8.7 to 8.11, on a sound arena: two stacks are filled above
 // the last key given, what both list alike is passed over, and the next entries say what differs.
+#![tactic(auto)]
+
 mod filling;
 
 ghost use Rattle.std.specs.Prelude.{◌≡◌};
@@ -21,7 +23,7 @@ use lookup::Found;
 use ranges::LastKey;
 
 // RULES 8.9: what the caller keeps, by value.
-#[derive(Drop)]
+#[derive(Clone, Copy)]
 pub struct Differences {
     pub first: u32,
     pub second: u32,
@@ -62,7 +64,7 @@ fn of_heads(h: Heads) -> DifferenceAnswer
 // What differs next between the versions whose roots are the links i and j.
 fn next_difference(ws: &[u32], i: u32, j: u32, last: LastKey) -> DifferenceAnswer
     requires ordered { Ordered ws.now i }
-    requires ordered_2 { Ordered ws.now j }
+    requires ordered_other { Ordered ws.now j }
     ensures { Differs ws.now i j (last_of last) result }
 {
     let mut a = [0u32; STACK];

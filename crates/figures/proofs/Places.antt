@@ -9,7 +9,7 @@ use Rattle.trees.specs.Lookup.{has}
 use Rattle.trees.specs.Insert.{balance, ins, insert}
 use Rattle.trees.specs.Remove.{remove_balance, remove_balance_left, remove_balance_right, join, fuse_node, fuse, del_left, del_right, del, remove}
 use Rattle.trees.specs.Edit.{Edit, setting, cutting, edit}
-use Rattle.words.specs.Layout.{nodes, slot_root}
+use Rattle.words.specs.Layout.{nodes, left, right, slot_root}
 use Rattle.words.specs.Reads.{Reads}
 use Rattle.words.specs.Fresh.{relabel}
 use Rattle.calls.specs.Version.{VersionIs}
@@ -158,7 +158,7 @@ size-bare (node p c l e r) = rw (size-bare l, size-bare r)
 -- A tree of the arena has kept nodes only.
 strip_reads : (n : ℕ) (ws : List ℕ) (i : ℕ) (t : Tree) → Reads n ws i t → strip t ≡ bare t
 strip_reads n ws i leaf h = refl
-strip_reads n ws i (node p c l e r) h = rw (h.0, strip_reads n ws _ l h.2, strip_reads n ws _ r h.3)
+strip_reads n ws i (node p c l e r) h = rw (h.0, strip_reads n ws (left ws i) l h.2, strip_reads n ws (right ws i) r h.3)
 
 -- So an edit of a version makes as many nodes, and comes to the same tree, as the edit of the version without numbers.
 module _ (d : Edit) {ws : List ℕ} {s : ℕ} {t : Tree} (x : VersionIs ws s t) where

@@ -2,6 +2,8 @@
 // include/foamcorbel.h declares: any words, slots, keys and walks may come in (RULES 14.1). The
 // result is the refusal's number, 0 when accepted; values go to the words lent as `out`, which a
 // refusal leaves as they were.
+#![tactic(auto)]
+
 ghost use Rattle.std.specs.Prelude.{[]};
 ghost use Rattle.trees.specs.Range.{front as atFront, back as atBack};
 ghost use Rattle.calls.specs.Call.{Call};

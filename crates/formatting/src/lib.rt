@@ -1,4 +1,6 @@
 // Format, RULES 4.1, 4.32 and 4.33, on any words.
+#![tactic(auto)]
+
 ghost use Rattle.std.specs.Prelude.{◌≡◌, ◌≤◌, length};
 ghost use Rattle.words.specs.Layout.{head, header_words, arena_words};
 ghost use Rattle.arena.specs.Nodes.{NodeInside};

@@ -1,4 +1,6 @@
 // 000's `remove_fuse` (RULES 6.32) on a read-only arena and a plan. A part of module 6 (RULES 6.7).
+#![tactic(auto)]
+
 ghost use Rattle.trees.specs.Remove.{fuse};
 ghost use Rattle.plan.specs.Held.{Room};
 ghost use Rattle.fusing.specs.Promises.{join_room, fuse_room, Twin, Joins, Ends, Fuses};

@@ -1,5 +1,7 @@
 // The program, RULES 9: reads commands from standard input, one to a line, and writes the answers
 // to standard output.
+#![tactic(auto)]
+
 ghost use Rattle.std.specs.Prelude.{◌≡◌, ◌+◌, ◌≤◌, length};
 ghost use Rattle.replies.specs.Text.{longest};
 ghost use Rattle.answering.specs.Answering.{call_of, Replies};
@@ -8,10 +10,10 @@ ghost use Rattle.headers.specs.Places.{Waits, Flushed, Ready};
 use answering::{answer, listed};
 use arena::{MAX_NODES, MAX_SLOTS};
 use commands::{Command, Line, parse};
-use libc::{STDERR_FILENO, STDIN_FILENO, STDOUT_FILENO};
 use ranges::LastKey;
 use red_black_tree_map::format;
 use replies::{LONGEST, Reply, put_reply};
+use std::io::Read;
 
 // The words of the largest arena.
 const WORDS: usize = 12354;
@@ -23,8 +25,11 @@ const LINE_ROOM: usize = 64;
 
 const OUT_ROOM: usize = 65536;
 
+// The most bytes of one read.
+const IN_ROOM: usize = 65536;
+
 // How many bytes of the current line are kept, how many bytes of answers wait, whether the input has ended and whether a write failed.
-#[derive(Drop)]
+#[derive(Clone, Copy)]
 struct Place {
     kept: usize,
     waiting: usize,
@@ -33,7 +38,7 @@ struct Place {
 }
 
 // Writes the answers that wait; after a failed write, none.
-fn flush(out: &[u8], p: Place) -> Place
+fn flush(rt: &(impl Print + Eprint), out: &[u8], p: Place) -> Place
     requires { Waits out.now p }
     ensures { Flushed p result }
 {
@@ -43,8 +48,8 @@ fn flush(out: &[u8], p: Place) -> Place
     if p.failed {
         return next;
     }
-    if !io::write_all(STDOUT_FILENO, &out[..n]) {
-        io::write_all(STDERR_FILENO, b"headers: a write failed\n");
+    if rt.write_all(&out[..n]).is_err() {
+        let _ = rt.eprintln("headers: a write failed");
         next.failed = true;
     }
     next
@@ -62,19 +67,26 @@ fn put_here(out: &mut [u8], p: Place, r: Reply) -> Place
 }
 
 // The answer's line waits to be written; where those that wait leave no room for it they are written first.
-fn put(out: &mut [u8], p: Place, r: Reply) -> Place
+fn put(rt: &(impl Print + Eprint), out: &mut [u8], p: Place, r: Reply) -> Place
     requires { Waits out.old p }
     ensures { Waits out.new result }
 {
     if out.len() - LONGEST < p.waiting {
-        let next = flush(out, p);
+        let next = flush(rt, out, p);
         return put_here(out, next, r);
     }
     put_here(out, p, r)
 }
 
 // The lines of a listing after the first, up to its end.
-fn list_rest(ws: &[u32], out: &mut [u8], p: Place, slot: u32, first: Reply) -> Place
+fn list_rest(
+    rt: &(impl Print + Eprint),
+    ws: &[u32],
+    out: &mut [u8],
+    p: Place,
+    slot: u32,
+    first: Reply,
+) -> Place
     requires waits { Waits out.old p }
     requires replies { Replies (call_of (Command.List slot)) ws.now first ws.now }
     ensures { Waits out.new result }
@@ -86,55 +98,74 @@ fn list_rest(ws: &[u32], out: &mut [u8], p: Place, slot: u32, first: Reply) -> P
             return next;
         };
         reply = listed(ws, slot, LastKey::Given(key));
-        next = put(out, next, reply);
+        next = put(rt, out, next, reply);
     }
 }
 
 // Answers a command.
-fn run(ws: &mut [u32], out: &mut [u8], p: Place, c: Command) -> Place
+fn run(rt: &(impl Print + Eprint), ws: &mut [u32], out: &mut [u8], p: Place, c: Command) -> Place
     requires { Waits out.old p }
     ensures { Waits out.new result }
 {
     let first = answer(ws, c);
-    let next = put(out, p, first);
+    let next = put(rt, out, p, first);
     match c {
-        Command::List(s) => list_rest(ws, out, next, s, first),
+        Command::List(s) => list_rest(rt, ws, out, next, s, first),
         _ => next,
     }
 }
 
 // Answers the line that is kept.
-fn answer_line(ws: &mut [u32], line: &[u8], out: &mut [u8], p: Place) -> Place
+fn answer_line(
+    rt: &(impl Print + Eprint),
+    ws: &mut [u32],
+    line: &[u8],
+    out: &mut [u8],
+    p: Place,
+) -> Place
     requires { Ready line.now out.old p }
     ensures { Waits out.new result }
 {
     let n = p.kept;
     if LINE_BYTES < n {
-        return put(out, p, Reply::Unknown);
+        return put(rt, out, p, Reply::Unknown);
     }
     match parse(&line[..n]) {
-        Line::Says(c) => run(ws, out, p, c),
-        Line::Unknown => put(out, p, Reply::Unknown),
+        Line::Says(c) => run(rt, ws, out, p, c),
+        Line::Unknown => put(rt, out, p, Reply::Unknown),
     }
 }
 
 // Ends the line.
-fn end_line(ws: &mut [u32], line: &[u8], out: &mut [u8], p: Place) -> Place
+fn end_line(
+    rt: &(impl Print + Eprint),
+    ws: &mut [u32],
+    line: &[u8],
+    out: &mut [u8],
+    p: Place,
+) -> Place
     requires { Ready line.now out.old p }
     ensures { Ready line.now out.new result }
 {
-    let mut next = answer_line(ws, line, out, p);
+    let mut next = answer_line(rt, ws, line, out, p);
     next.kept = 0;
     next
 }
 
 // Keeps the byte, if the line is not too long already, or ends the line.
-fn take_byte(ws: &mut [u32], line: &mut [u8], out: &mut [u8], p: Place, b: u8) -> Place
+fn take_byte(
+    rt: &(impl Print + Eprint),
+    ws: &mut [u32],
+    line: &mut [u8],
+    out: &mut [u8],
+    p: Place,
+    b: u8,
+) -> Place
     requires { Ready line.old out.old p }
     ensures { Ready line.new out.new result }
 {
     if b == b'\n' {
-        return end_line(ws, line, out, p);
+        return end_line(rt, ws, line, out, p);
     }
     let mut next = p;
     let at = p.kept;
@@ -146,14 +177,21 @@ fn take_byte(ws: &mut [u32], line: &mut [u8], out: &mut [u8], p: Place, b: u8) -
 }
 
 // Takes every byte that came.
-fn take_all(ws: &mut [u32], line: &mut [u8], out: &mut [u8], p: Place, input: &[u8]) -> Place
+fn take_all(
+    rt: &(impl Print + Eprint),
+    ws: &mut [u32],
+    line: &mut [u8],
+    out: &mut [u8],
+    p: Place,
+    input: &[u8],
+) -> Place
     requires { Ready line.old out.old p }
     ensures { Ready line.new out.new result }
 {
     let mut next = p;
     let mut k = 0usize;
     while k < input.len() {
-        next = take_byte(ws, line, out, next, input[k]);
+        next = take_byte(rt, ws, line, out, next, input[k]);
         k += 1;
     }
     next
@@ -169,34 +207,46 @@ fn ended(p: Place) -> Place
 }
 
 // Reads once, takes what came and writes the answers to it.
-fn read_some(ws: &mut [u32], line: &mut [u8], out: &mut [u8], p: Place) -> Place
+fn read_some(
+    rt: &(impl Input + Print + Eprint),
+    ws: &mut [u32],
+    line: &mut [u8],
+    out: &mut [u8],
+    p: Place,
+) -> Place
     requires { Ready line.old out.old p }
     ensures { Ready line.new out.new result }
 {
-    let mut input = io::large_buffer();
-    let got = libc::read(STDIN_FILENO, &mut input);
-    let n = io::count(got, &input);
-    if got < 0 {
-        io::write_all(STDERR_FILENO, b"headers: a read failed\n");
-        return ended(p);
+    let mut input = [0u8; IN_ROOM];
+    match rt.reader().read(&mut input) {
+        Ok(0) => ended(p),
+        Ok(n) => {
+            let next = take_all(rt, ws, line, out, p, &input[..n]);
+            flush(rt, out, next)
+        }
+        Err(_) => {
+            let _ = rt.eprintln("headers: a read failed");
+            ended(p)
+        }
     }
-    if got == 0 {
-        return ended(p);
-    }
-    let next = take_all(ws, line, out, p, &input[..n]);
-    flush(out, next)
 }
 
 // Reads to the input's end. A proved loop has to end, and nothing says that an input does: so the loop counts its turns down, from a
 // number that no run uses up.
-fn read_all(ws: &mut [u32], line: &mut [u8], out: &mut [u8], p: Place) -> Place
+fn read_all(
+    rt: &(impl Input + Print + Eprint),
+    ws: &mut [u32],
+    line: &mut [u8],
+    out: &mut [u8],
+    p: Place,
+) -> Place
     requires { Ready line.old out.old p }
     ensures { Ready line.new out.new result }
 {
     let mut next = p;
     let mut turns = u64::MAX;
     while turns > 0 {
-        next = read_some(ws, line, out, next);
+        next = read_some(rt, ws, line, out, next);
         if next.ended {
             return next;
         }
@@ -209,7 +259,7 @@ fn read_all(ws: &mut [u32], line: &mut [u8], out: &mut [u8], p: Place) -> Place
 }
 
 // A last line without a line end counts.
-fn serve(ws: &mut [u32], line: &mut [u8], out: &mut [u8])
+fn serve(rt: &(impl Input + Print + Eprint), ws: &mut [u32], line: &mut [u8], out: &mut [u8])
     requires { longest ≤ length out.old }
 {
     let start = Place {
@@ -218,17 +268,17 @@ fn serve(ws: &mut [u32], line: &mut [u8], out: &mut [u8])
         ended: false,
         failed: false,
     };
-    let last = read_all(ws, line, out, start);
+    let last = read_all(rt, ws, line, out, start);
     if 0 < last.kept {
-        let next = end_line(ws, line, out, last);
-        flush(out, next);
+        let next = end_line(rt, ws, line, out, last);
+        flush(rt, out, next);
     }
 }
 
-fn main() {
+fn main(rt: HostRuntime) {
     let mut ws = [0u32; WORDS];
     let mut line = [0u8; LINE_ROOM];
     let mut out = [0u8; OUT_ROOM];
     format(&mut ws, MAX_NODES, MAX_SLOTS);
-    serve(&mut ws, &mut line, &mut out);
+    serve(&rt, &mut ws, &mut line, &mut out);
 }

@@ -12,7 +12,7 @@ pub fn lg_floor(size: u32) -> u32
     31 - u32::leading_zeros(size)
 }
 
-// RULES 5.1: a height that no red_black tree of `size` entries exceeds.
+// RULES 5.1: a height that no red-black tree of `size` entries exceeds.
 pub fn conservative_height(size: u32) -> u32
     requires { size < 4294967295 }
     ensures { result ≡ heightOf size }

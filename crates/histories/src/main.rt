@@ -1,5 +1,7 @@
 // Runs long random histories of insert, remove and release, and holds the arena to a plain table after every step.
 // In the table the place k has the value of the k-th key, 0 where there is no such entry.
+#![tactic(auto)]
+
 use answers::{EntryAnswer, NumberAnswer, Refusal};
 use arena::{Entry, MAX_NODES, MAX_SLOTS};
 use ranges::{Bound, LastKey, Range};
@@ -42,7 +44,7 @@ const LISTED: u32 = 20;
 const MOST: u32 = 1000000000;
 
 // The current version's slot, the random number, and what is counted.
-#[derive(Drop)]
+#[derive(Clone, Copy)]
 struct History {
     cur: u32,
     seed: u32,
@@ -53,7 +55,7 @@ struct History {
 }
 
 // How far a walk has come, and whether all its entries were those of the table.
-#[derive(Drop)]
+#[derive(Clone, Copy)]
 struct Place {
     front: LastKey,
     same: bool,
@@ -433,47 +435,47 @@ fn hold_older(ws: &mut [u32], table: &mut [u32], h: History) -> History {
     }
 }
 
-// Writes a number and what it counts.
-fn say(n: u32, what: &[u8]) {
-    io::print_decimal(1, n as u64);
-    io::write_all(1, what);
+// Writes a number and what it counts. A write that fails is let go.
+fn say(rt: &impl Print, n: u32, what: &[u8]) {
+    let _ = rt.print(n);
+    let _ = rt.write_all(what);
 }
 
 // Writes what a history has counted.
-fn report(nodes: u32, steps: u32, h: History) {
-    say(nodes, b" nodes: ");
-    say(steps, b" steps, ");
-    say(h.insertions, b" insertions, ");
-    say(h.removals, b" removals, ");
-    say(h.refusals, b" refusals, ");
-    say(h.differences, b" differences\n");
+fn report(rt: &impl Print, nodes: u32, steps: u32, h: History) {
+    say(rt, nodes, b" nodes: ");
+    say(rt, steps, b" steps, ");
+    say(rt, h.insertions, b" insertions, ");
+    say(rt, h.removals, b" removals, ");
+    say(rt, h.refusals, b" refusals, ");
+    say(rt, h.differences, b" differences\n");
 }
 
 // The small history.
-fn small() {
+fn small(rt: &impl Print) {
     let mut ws = [0u32; SMALL_WORDS];
     let mut table = [0u32; SMALL_KEYS];
     let first = begin(&mut ws, SMALL_NODES, SMALL_SLOTS);
     let mut h = small_steps(&mut ws, &mut table, first, 0, SMALL_STEPS);
-    report(SMALL_NODES, SMALL_STEPS, h);
+    report(rt, SMALL_NODES, SMALL_STEPS, h);
     h.differences = 0;
     let last = hold_older(&mut ws, &mut table, h);
-    say(SMALL_NODES, b" nodes, an older version held: ");
-    say(ALL_SMALL_STEPS - SMALL_STEPS, b" steps, ");
-    say(last.differences, b" differences\n");
+    say(rt, SMALL_NODES, b" nodes, an older version held: ");
+    say(rt, ALL_SMALL_STEPS - SMALL_STEPS, b" steps, ");
+    say(rt, last.differences, b" differences\n");
 }
 
 // The large history.
-fn large() {
+fn large(rt: &impl Print) {
     let mut ws = [0u32; LARGE_WORDS];
     let mut table = [0u32; LARGE_KEYS];
     let first = begin(&mut ws, MAX_NODES, MAX_SLOTS);
     let h = large_steps(&mut ws, &mut table, first);
-    report(MAX_NODES, LARGE_STEPS, end(&mut ws, h, MAX_NODES));
+    report(rt, MAX_NODES, LARGE_STEPS, end(&mut ws, h, MAX_NODES));
 }
 
 // Both histories.
-fn main() {
-    small();
-    large();
+fn main(rt: HostRuntime) {
+    small(&rt);
+    large(&rt);
 }

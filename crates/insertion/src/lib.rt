@@ -1,4 +1,6 @@
 // 000's `insert` on a read-only arena and a plan. Module 5 (RULES 6.6).
+#![tactic(auto)]
+
 ghost use Rattle.std.specs.Prelude.{not};
 ghost use Rattle.trees.specs.Insert.{settle as settleOf, ins as insOf, insert as insertOf};
 ghost use Rattle.arena.specs.Nodes.{entry_of};
@@ -13,7 +15,7 @@ use plan::look;
 use planning::{paint, push};
 
 // A link, and whether its key is new.
-#[derive(Drop)]
+#[derive(Clone, Copy)]
 pub struct Put {
     pub link: u32,
     pub new: bool,
@@ -23,7 +25,7 @@ pub struct Put {
 fn settle(ws: &[u32], plan: &mut [u32], x: Node, new: bool) -> u32
     requires room { Room ws.now plan.old balance_room }
     requires some { Some ws.now plan.old x.left }
-    requires some_2 { Some ws.now plan.old x.right }
+    requires some_right { Some ws.now plan.old x.right }
     ensures { Steps ws.now plan.old plan.new balance_room x result (settleOf (not new)) }
 {
     if new {

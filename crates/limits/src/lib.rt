@@ -1,4 +1,6 @@
 // RULES 2.7, 2.8: N is 1 to 2,047, V is 1 to 32, and both agree with the length.
+#![tactic(auto)]
+
 ghost use Rattle.std.specs.Prelude.{◌≡◌, ◌≤◌};
 ghost use Rattle.words.specs.Layout.{max_nodes, max_slots, arena_words};
 ghost use Rattle.words.specs.Sound.{Limits};

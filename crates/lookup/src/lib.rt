@@ -1,5 +1,7 @@
 // Module 3 (RULES 6.4, 13.9): lookups over node numbers, the remaining height falling. "`get`: a
 // loop; `first`, `last`: recursive descents".
+#![tactic(auto)]
+
 ghost use Rattle.std.specs.Prelude.{◌≡◌, ltb};
 ghost use Rattle.heights.specs.Choice.{if◌then◌else◌};
 ghost use Rattle.words.specs.Layout.{max_height};
@@ -11,7 +13,7 @@ ghost use Rattle.lookup.specs.Finding.{found_of, Rooted, Finds};
 use arena::{Entry, MAX_HEIGHT, Node, node_at};
 
 // The entry that was looked for, if there is one.
-#[derive(Drop)]
+#[derive(Clone, Copy)]
 pub enum Found {
     At(Entry),
     Nothing,

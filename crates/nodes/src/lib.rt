@@ -1,5 +1,7 @@
 // What writes nodes: they are taken from the free list, counted and given back. Module 2
 // (RULES 6.2), with `arena`.
+#![tactic(auto)]
+
 ghost use Rattle.std.specs.Prelude.{◌≡◌};
 ghost use Rattle.words.specs.Model.{with_count, raising, freeing};
 ghost use Rattle.arena.specs.Nodes.{NodeInside};

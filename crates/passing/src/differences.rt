@@ -21,7 +21,7 @@ const IN_BOTH: u32 = 3;
 const NO_VALUE: u32 = 0;
 
 // The four words of a difference.
-#[derive(Drop)]
+#[derive(Clone, Copy)]
 struct Row {
     kind: u32,
     key: u32,

@@ -1,5 +1,7 @@
 // What crosses to C: each kind of answer as a result and values in lent words, and what the caller
 // keeps of a walk or of an audit, from such words.
+#![tactic(auto)]
+
 pub mod differences;
 pub mod walks;
 

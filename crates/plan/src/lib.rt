@@ -1,4 +1,6 @@
 // The plan: a call draws up its new nodes in a lent scratch before it writes a word of the arena. Here it is read; `planning` adds to it.
+#![tactic(auto)]
+
 ghost use Rattle.std.specs.Prelude.{◌≡◌, ◌&&◌, ◌+◌, eqb};
 ghost use Rattle.plan.specs.Scratch.{PlanInside, IsPlanned};
 ghost use Rattle.plan.specs.Held.{Some, Room};

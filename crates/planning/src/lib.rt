@@ -1,4 +1,6 @@
 // What adds to a plan. Nodes are only added, so that what a link holds, it goes on holding.
+#![tactic(auto)]
+
 ghost use Rattle.std.specs.Prelude.{◌≡◌, ◌+◌, ◌<◌};
 ghost use Rattle.trees.specs.Tree.{copy as copy_of};
 ghost use Rattle.plan.specs.Scratch.{used, PlanInside};

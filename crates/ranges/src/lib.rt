@@ -1,4 +1,6 @@
 // The descents of module 8 (RULES 6.9, 7.8): the steps of a walk over a range, over node numbers.
+#![tactic(auto)]
+
 ghost use Rattle.std.specs.Prelude.{◌≡◌};
 ghost use Rattle.words.specs.Layout.{max_height};
 ghost use Rattle.trees.specs.Range.{from_start, to_end, past, after_front, before_back, front as atFront, back as atBack};
@@ -10,7 +12,7 @@ use arena::{MAX_HEIGHT, node_at};
 use lookup::Found;
 
 // RULES 7.1: an end of a range.
-#[derive(Drop)]
+#[derive(Clone, Copy)]
 pub enum Bound {
     Included(u32),
     Excluded(u32),
@@ -18,14 +20,14 @@ pub enum Bound {
 }
 
 // RULES 7.1: the last key that a walk gave at one of its ends, if any.
-#[derive(Drop)]
+#[derive(Clone, Copy)]
 pub enum LastKey {
     Given(u32),
     NotGiven,
 }
 
 // What a walk keeps besides its slot.
-#[derive(Drop)]
+#[derive(Clone, Copy)]
 pub struct Range {
     pub start: Bound,
     pub end: Bound,

@@ -1,5 +1,7 @@
 // The first half of the soundness test: every node that is reached, each queued after all that name
 // it, and the free list.
+#![tactic(auto)]
+
 ghost use Rattle.std.specs.Prelude.{◌+◌, ◌<◌};
 ghost use Rattle.words.specs.Layout.{slots};
 ghost use Rattle.soundness_laws.specs.Answer.{Decides};

@@ -1,5 +1,7 @@
 // The calls that only read one version, on a sound arena: RULES 4.5 to 4.9, 4.15.
 // `red_black_tree_map` tests the arena first.
+#![tactic(auto)]
+
 ghost use Rattle.words.specs.Sound.{Sound};
 ghost use Rattle.calls.specs.Call.{Call};
 ghost use Rattle.calls.specs.Outcome.{Outcome};

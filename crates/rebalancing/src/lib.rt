@@ -1,5 +1,7 @@
 // 000's `remove_balance_left` and `remove_balance_right` (RULES 6.30, 6.31) on a read-only arena
 // and a plan. A part of module 6 (RULES 6.7).
+#![tactic(auto)]
+
 ghost use Rattle.trees.specs.Tree.{lf, rt};
 ghost use Rattle.plan.specs.Held.{Some, Room};
 ghost use Rattle.plan.specs.Steps.{Steps};

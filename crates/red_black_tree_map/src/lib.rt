@@ -1,5 +1,7 @@
 // The public calls, RULES 4: any words, slots, keys and ranges may come in. Each call tests the
 // arena and then does what the table says.
+#![tactic(auto)]
+
 ghost use Rattle.trees.specs.Range.{front as atFront, back as atBack};
 ghost use Rattle.arena.specs.Nodes.{entry_of};
 ghost use Rattle.calls.specs.Call.{Call, Answer};

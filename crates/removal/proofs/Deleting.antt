@@ -21,7 +21,7 @@ use Rattle.rebalancing.specs.Promises.{balance_left, balance_right, Leans}
 use Rattle.fusing.specs.Promises.{fuse_room, Twin, Joins}
 use Rattle.removal.specs.Promises.{del_room, cut_left, cut_right, RedBlack, Sides}
 
--- The sides of a red_black tree have as many black levels as one another.
+-- The sides of a red-black tree have as many black levels as one another.
 record Halves (t : Tree) : Type 0 where
   pub blacks : ℕ
   pub left : Rb blacks (lf t)

@@ -23,7 +23,7 @@ cut_left k t = del_left (lf t) (del k (lf t)) (en t) (rt t)
 abbrev pub cut_right : ℕ → Tree → Tree
 cut_right k t = del_right (lf t) (en t) (rt t) (del k (rt t))
 
--- A red_black tree of height h at most and n black levels.
+-- A red-black tree of height h at most and n black levels.
 pub record Shaped (ws plan : List ℕ) (link h n : ℕ) : Type 0 where
   pub some : Some ws plan link
   pub fits : height some.tree ≤ h

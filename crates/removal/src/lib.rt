@@ -1,5 +1,7 @@
 // 000's `del` with its two sides, and `remove`, on a read-only arena and a plan. Module 6
 // (RULES 6.7, 13.12), whose other parts stand in `turning`, `rebalancing` and `fusing`.
+#![tactic(auto)]
+
 ghost use Rattle.std.specs.Prelude.{◌+◌};
 ghost use Rattle.trees.specs.Remove.{del as delOf};
 ghost use Rattle.plan.specs.Held.{Room};

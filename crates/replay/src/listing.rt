@@ -11,7 +11,7 @@ use walking::Walk;
 const END: u32 = 8;
 
 // How far the walk has come, and whether all its entries were those of the line.
-#[derive(Drop)]
+#[derive(Clone, Copy)]
 struct Place {
     front: LastKey,
     same: bool,

@@ -1,14 +1,19 @@
 // Replays the list of calls with rpds's answers that oracle/list makes, on one arena, and counts the answers that differ.
+#![tactic(auto)]
+
 mod calling;
 mod expected;
 mod listing;
 mod numbers;
+
+ghost use Rattle.std.specs.Prelude.{◌≤◌, length};
 
 use self::calling::answered;
 use self::numbers::{NUMBERS, Reading, end_number, start, take, untouched, whole};
 use arena::{MAX_NODES, MAX_SLOTS};
 use passing::pass_done;
 use red_black_tree_map::format;
+use std::io::Read;
 
 // The words of the largest arena.
 const WORDS: usize = 12354;
@@ -23,7 +28,7 @@ const FINISH: u32 = 0;
 const MOST: u32 = 1000000000;
 
 // What is counted: lines, differences, the line of the first, and whether the list's last line was met.
-#[derive(Drop)]
+#[derive(Clone, Copy)]
 struct Tally {
     lines: u32,
     differences: u32,
@@ -32,7 +37,7 @@ struct Tally {
 }
 
 // Between two bytes of the list.
-#[derive(Drop)]
+#[derive(Clone, Copy)]
 struct State {
     reading: Reading,
     tally: Tally,
@@ -148,24 +153,40 @@ fn replay(text: &[u8]) -> Tally {
     end(steps(&mut ws, &mut line, State { reading, tally }, text))
 }
 
-// Writes a number and what it counts.
-fn say(n: u32, what: &[u8]) {
-    io::print_decimal(1, n as u64);
-    io::write_all(1, what);
+// Writes a number and what it counts. A write that fails is let go.
+fn say(rt: &impl Print, n: u32, what: &[u8]) {
+    let _ = rt.print(n);
+    let _ = rt.write_all(what);
 }
 
 // Writes what was counted, and where the first difference is.
-fn report(t: Tally) {
-    say(calls(t), b" calls\n");
-    say(t.differences, b" differences\n");
+fn report(rt: &impl Print, t: Tally) {
+    say(rt, calls(t), b" calls\n");
+    say(rt, t.differences, b" differences\n");
     if 0 < t.differences {
-        io::write_all(1, b"the first at line ");
-        say(t.first, b"\n");
+        let _ = rt.write_all(b"the first at line ");
+        say(rt, t.first, b"\n");
     }
 }
 
-fn main() {
+// Reads until the buffer is full, the input ends or a read fails, and says how many bytes came.
+fn read_full(rt: &impl Input, text: &mut [u8]) -> usize
+    ensures { result ≤ length text.new }
+{
+    let mut input = rt.reader();
+    let mut done = 0usize;
+    while done < text.len() {
+        match input.read(&mut text[done..]) {
+            Ok(0) => return done,
+            Ok(n) => done += n,
+            Err(_) => return done,
+        }
+    }
+    done
+}
+
+fn main(rt: HostRuntime) {
     let mut text = [0u8; BYTES];
-    let n = io::read_full(0, &mut text);
-    report(replay(&text[..n]));
+    let n = read_full(&rt, &mut text);
+    report(&rt, replay(&text[..n]));
 }

@@ -9,7 +9,7 @@ const GREATEST: u64 = 4294967295;
 const FEWEST: usize = 3;
 
 // What is read of a line: the number at hand, if a digit of it is there, how many numbers before it, and whether all is well so far.
-#[derive(Drop)]
+#[derive(Clone, Copy)]
 pub struct Reading {
     pub value: u32,
     pub begun: bool,

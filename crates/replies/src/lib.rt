@@ -1,4 +1,6 @@
 // The answers of the program, RULES 9.6 to 9.15: each written as a line.
+#![tactic(auto)]
+
 ghost use Rattle.std.specs.Prelude.{[], ◌∷◌, ◌++◌, ◌+◌, ◌≤◌, length};
 ghost use Rattle.decimal.specs.Decimal.{digits};
 ghost use Rattle.decimal.specs.Written.{Written};
@@ -7,7 +9,7 @@ ghost use Rattle.replies.specs.Text.{reply, longest};
 use decimal::{put_number, put_text};
 
 // An answer that takes one line.
-#[derive(Drop)]
+#[derive(Clone, Copy)]
 pub enum Reply {
     Number(u32),
     Done,

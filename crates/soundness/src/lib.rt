@@ -1,5 +1,7 @@
 // The soundness test, RULES 4.40: yes exactly when the arena is sound, and then how many nodes are
 // free. It writes nothing.
+#![tactic(auto)]
+
 pub mod packed;
 pub mod settling;
 
@@ -23,7 +25,7 @@ const MIDDLE: usize = 256;
 const LARGE: usize = 2048;
 
 // What the test answers: sound, with the number of free nodes; or not.
-#[derive(Drop)]
+#[derive(Clone, Copy)]
 pub enum Tested {
     Sound(u32),
     Unsound,

@@ -1,6 +1,8 @@
 // Runs the soundness test on arenas built by hand, each rule of RULES 3 broken one at a time, and
 // writes each verdict on a line. The expected lines are read off the rules, beside each case in
 // `arenas` and `broken`.
+#![tactic(auto)]
+
 mod arenas;
 mod broken;
 
@@ -10,17 +12,12 @@ use self::arenas::{BASE, EMPTY, FULL, SHARED};
 use self::broken::{CHANGED, CHANGES};
 use soundness::{Tested, test};
 
-fn say(t: Tested) {
-    match t {
-        Tested::Sound(free) => {
-            io::write_all(1, b"yes ");
-            io::print_decimal(1, free as u64);
-            io::write_all(1, b"\n");
-        }
-        Tested::Unsound => {
-            io::write_all(1, b"no\n");
-        }
-    }
+// A write that fails is let go.
+fn say(rt: &impl Print, t: Tested) {
+    let _ = match t {
+        Tested::Sound(free) => println!(rt; "yes {free}"),
+        Tested::Unsound => println!(rt; "no"),
+    };
 }
 
 fn change(ws: &mut [u32; 56], at: u32, value: u32) {
@@ -29,12 +26,12 @@ fn change(ws: &mut [u32; 56], at: u32, value: u32) {
     }
 }
 
-fn verdict(ws: &[u32; 56]) {
-    say(test(ws));
+fn verdict(rt: &impl Print, ws: &[u32; 56]) {
+    say(rt, test(ws));
 }
 
 // The verdict on BASE with the changes of one row.
-fn changed(row: usize)
+fn changed(rt: &impl Print, row: usize)
     requires { row < 34 }
 {
     let mut ws = BASE;
@@ -44,13 +41,13 @@ fn changed(row: usize)
     change(&mut ws, CHANGED[b + 4], CHANGED[b + 5]);
     change(&mut ws, CHANGED[b + 6], CHANGED[b + 7]);
     change(&mut ws, CHANGED[b + 8], CHANGED[b + 9]);
-    verdict(&ws);
+    verdict(rt, &ws);
 }
 
-fn changes() {
+fn changes(rt: &impl Print) {
     let mut row = 0usize;
     while row < CHANGES {
-        changed(row);
+        changed(rt, row);
         row += 1;
     }
 }
@@ -66,32 +63,32 @@ fn lengthen(long: &mut [u32; 57]) {
 }
 
 // The verdict on the first n words.
-fn cut_off(ws: &[u32], n: usize)
+fn cut_off(rt: &impl Print, ws: &[u32], n: usize)
     requires { n ≤ length ws.now }
 {
-    say(test(&ws[..n]));
+    say(rt, test(&ws[..n]));
 }
 
 // Slices too short for a header, and one word too few or too many.
-fn lengths(long: &[u32; 57]) {
+fn lengths(rt: &impl Print, long: &[u32; 57]) {
     let mut n = 0usize;
     while n <= 8 {
-        cut_off(long, n);
+        cut_off(rt, long, n);
         n += 1;
     }
-    cut_off(long, 55);
-    cut_off(long, 57);
+    cut_off(rt, long, 55);
+    cut_off(rt, long, 57);
 }
 
-fn main() {
-    changes();
+fn main(rt: HostRuntime) {
+    changes(&rt);
     let full = FULL;
-    say(test(&full));
+    say(&rt, test(&full));
     let empty = EMPTY;
-    say(test(&empty));
+    say(&rt, test(&empty));
     let shared = SHARED;
-    say(test(&shared));
+    say(&rt, test(&shared));
     let mut long = [0u32; 57];
     lengthen(&mut long);
-    lengths(&long);
+    lengths(&rt, &long);
 }

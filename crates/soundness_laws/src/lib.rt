@@ -1,1 +1,2 @@
 // No functions: what the soundness test notes stands in specs/, the laws in proofs/.
+#![tactic(auto)]

@@ -135,7 +135,7 @@ pub root_paint : (t : Tree) → is_red (paint black t) ≡ false
 root_paint leaf = refl
 root_paint (node p c l e r) = refl
 
--- `insert` keeps the order, the black root and the red_black shape.
+-- `insert` keeps the order, the black root and the red-black shape.
 pub fine_insert : (x : Entry) (t : Tree) → Fine t → Fine (insert x t)
 unfolding insert
 fine_insert x t g =

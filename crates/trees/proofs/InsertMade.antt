@@ -68,7 +68,7 @@ same_red : {l r u : Tree} {e : Entry} → Balance (node fresh red l e r) u → (
     (made u ≡ suc (made l + made r)) × Hot u
 same_red {l = l} {r = r} {e = e} (Balance.calm s) h i = (omega arith, hot_red l e r h i)
 
--- So a node of either colour, in the place of one of a red_black tree, with one child grown.
+-- So a node of either colour, in the place of one of a red-black tree, with one child grown.
 module _ {n : ℕ} {p : Place} {l r u : Tree} {e : Entry} where
   grown_left : {m : Tree} (c : Color) → Balance (node fresh c m e r) u → Hot m → Rb n (node p c l e r) → (made u ≡ suc (made m + made r)) × Hot u
   grown_left red g h a = same_red g (λ _. h.root) (never (not_red a).1)

@@ -1,4 +1,4 @@
--- The arms that 000 marks `unreachable!` are never reached on red_black trees, and every `unwrap` that no test before it guards finds a node.
+-- The arms that 000 marks `unreachable!` are never reached on red-black trees, and every `unwrap` that no test before it guards finds a node.
 use Prim.Native.Nat.{ℕ, suc}
 use mathlib.Core.Path.{◌≡◌}
 use mathlib.Core.Bool.{true}
@@ -78,6 +78,6 @@ clean_Del (Del.left_black h g s) a = let b = parts a in (clean_Del g b.0, clean_
 clean_Del (Del.right h q g) a = clean_Del g (parts a).1
 clean_Del (Del.right_black h g s) a = let b = parts a in (clean_Del g b.1, clean_Right s (beside_black b.1 b.0))
 
--- Whatever key is removed from a red_black tree.
+-- Whatever key is removed from a red-black tree.
 pub never_stuck : {n : ℕ} (k : ℕ) (t : Tree) → Rb n t → Clean-Del (deleted k t)
 never_stuck k t a = clean_Del (deleted k t) a

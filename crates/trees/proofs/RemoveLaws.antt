@@ -244,7 +244,7 @@ near_after rb_leaf b = (0, well b)
 near_after (rb_red {n = n} h i a c) b = (n, well b)
 near_after (rb_black {n = n} a c) b = (n, b)
 
--- `remove` keeps the order, the black root and the red_black shape.
+-- `remove` keeps the order, the black root and the red-black shape.
 pub fine_remove : (k : ℕ) (t : Tree) → Fine t → Fine (remove k t)
 unfolding remove
 fine_remove k t g =

@@ -46,21 +46,21 @@ rows =
     row (setting (e 1)) o (B* o 1 o) ∷
     -- A new key below it is red.
     row (setting (e 2)) (B 1 o 1 o) (B* o 1 (R* o 2 o)) ∷
-    -- "Insert 1, 2, 3 into an empty version: root 2, children 1 and 3, all black": right and right_right red.
+    -- "Insert 1, 2, 3 into an empty version: root 2, children 1 and 3, all black": right and right-right red.
     row (setting (e 3)) (B 1 o 1 (R 2 o 2 o)) (B* (B* o 1 o) 2 (B* o 3 o)) ∷
-    -- Left and left_left red.
+    -- Left and left-left red.
     row (setting (e 1)) (B 2 (R 1 o 2 o) 3 o) (B* (B* o 1 o) 2 (B* o 3 o)) ∷
-    -- Left and left_right red.
+    -- Left and left-right red.
     row (setting (e 2)) (B 2 (R 1 o 1 o) 3 o) (B* (B* o 1 o) 2 (B* o 3 o)) ∷
-    -- Right and right_left red.
+    -- Right and right-left red.
     row (setting (e 2)) (B 1 o 1 (R 2 o 3 o)) (B* (B* o 1 o) 2 (B* o 3 o)) ∷
     -- Balance below the root; what is off the search path is shared.
     row (setting (e 5)) (B 2 (B 1 o 1 o) 2 (B 3 o 3 (R 4 o 4 o))) (B* (B 1 o 1 o) 2 (R* (B* o 3 o) 4 (B* o 5 o))) ∷
     -- An equal key: the search path is made anew, nothing turns.
     row (setting (e 3)) (B 2 (B 1 o 1 o) 2 (R 5 (B 4 (R 3 o 3 o) 4 o) 5 (B 6 o 6 (R 7 o 7 o)))) (B* (B 1 o 1 o) 2 (R* (B* (R* o 3 o) 4 o) 5 (B 6 o 6 (R 7 o 7 o)))) ∷
-    -- Right-left and right_right both red in a removal: right_right first would give root 4.
+    -- Right-left and right-right both red in a removal: right-right first would give root 4.
     row (cutting 1) (B 2 (B 1 o 1 o) 2 (B 4 (R 3 o 3 o) 4 (R 5 o 5 o))) (B* (B* o 2 o) 3 (B* o 4 (R 5 o 5 o))) ∷
-    -- Its mirror: left_left before left_right.
+    -- Its mirror: left-left before left-right.
     row (cutting 5) (B 4 (B 2 (R 1 o 1 o) 2 (R 3 o 3 o)) 4 (B 5 o 5 o)) (B* (B* o 1 o) 2 (B* (R 3 o 3 o) 4 o)) ∷
     -- A fuse with one side empty: the child is fresh.
     row (cutting 1) (B 1 o 1 (R 2 o 2 o)) (B* o 2 o) ∷

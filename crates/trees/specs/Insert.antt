@@ -9,7 +9,7 @@ abbrev pub risen : Tree → Entry → Tree → Entry → Tree → Entry → Tree
 risen a x b y c z d = node fresh red (node fresh black a x b) y (node fresh black c z d)
 
 -- RULES 6.18: "`balance` changes a black node only, by the first of 6.19 to 6.22 that fits, in this
--- order": left and left_left red; left and left_right; right and right_left; right and right_right.
+-- order": left and left-left red; left and left-right; right and right-left; right and right-right.
 unfoldable pub balance : Tree → Tree
 balance t =
     let l = lf t in

@@ -1,4 +1,4 @@
--- The red_black shape, and what the tree of a version has to be.
+-- The red-black shape, and what the tree of a version has to be.
 use Rattle.std.specs.Prelude.{ℕ, suc, ◌≡◌, false}
 use Rattle.trees.specs.Tree.{Tree, leaf, node, Entry, Place, red, black, is_red, listing}
 use Rattle.trees.specs.Listing.{Ascending}

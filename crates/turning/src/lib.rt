@@ -1,5 +1,7 @@
 // 000's `remove_balance`, and the third arms of its two sides, on a read-only arena and a plan. A
 // part of module 6 (RULES 6.7).
+#![tactic(auto)]
+
 ghost use Rattle.trees.specs.Remove.{remove_balance};
 ghost use Rattle.plan.specs.Held.{Some, Room};
 ghost use Rattle.plan.specs.Steps.{Looks, Steps};
@@ -16,7 +18,7 @@ use planning::{paint, push};
 pub fn remove_balance(ws: &[u32], plan: &mut [u32], x: Node) -> u32
     requires room { Room ws.now plan.old balance_room }
     requires some { Some ws.now plan.old x.left }
-    requires some_2 { Some ws.now plan.old x.right }
+    requires some_right { Some ws.now plan.old x.right }
     ensures { Steps ws.now plan.old plan.new balance_room x result remove_balance }
 {
     let l = look(ws, plan, x.left);

@@ -1,5 +1,7 @@
 // The versions, RULES 4.34 to 4.36: new, hold and release, on a sound arena, and the tests of the
 // calls that hand out a slot. Each takes the free number and gives it back.
+#![tactic(auto)]
+
 ghost use Rattle.std.specs.Prelude.{◌≡◌};
 ghost use Rattle.words.specs.Layout.{nodes};
 ghost use Rattle.words.specs.Sound.{Sound};
@@ -13,48 +15,48 @@ use answers::{Entered, Refusal, enter};
 use arena::{MAX_HEIGHT, NOT_HELD, nodes_of, put_slot, slot_root, slot_size, slots_of};
 use nodes::count_up;
 
-#[derive(Drop)]
+#[derive(Clone, Copy)]
 pub enum SlotAnswer {
     Slot(u32),
     Refused(Refusal),
 }
 
-#[derive(Drop)]
+#[derive(Clone, Copy)]
 pub enum DoneAnswer {
     Done,
     Refused(Refusal),
 }
 
 // What a call that hands out a slot answers, and the free number after it.
-#[derive(Drop)]
+#[derive(Clone, Copy)]
 pub struct Handed {
     pub answer: SlotAnswer,
     pub free: u32,
 }
 
 // The same of release.
-#[derive(Drop)]
+#[derive(Clone, Copy)]
 pub struct GivenUp {
     pub answer: DoneAnswer,
     pub free: u32,
 }
 
 // The lowest slot not held, if there is one.
-#[derive(Drop)]
+#[derive(Clone, Copy)]
 pub enum FreeSlot {
     At(u32),
     AllHeld,
 }
 
 // The version that a call takes as its parent, and the slot that it hands out.
-#[derive(Drop)]
+#[derive(Clone, Copy)]
 pub struct Parent {
     pub root: u32,
     pub size: u32,
     pub out: u32,
 }
 
-#[derive(Drop)]
+#[derive(Clone, Copy)]
 pub enum Opened {
     Parent(Parent),
     Refused(Refusal),
@@ -103,7 +105,7 @@ pub fn new_version(ws: &mut [u32], free: u32) -> Handed
     requires sound { Sound ws.old }
     requires free_is { FreeIs ws.old free }
     ensures outcome { Outcome Call.new ws.old (slot_answer result.answer) ws.new }
-    ensures free_is_2 { FreeIs ws.new result.free }
+    ensures free_after { FreeIs ws.new result.free }
 {
     let FreeSlot::At(q) = lowest_slot(ws) else {
         return Handed {
@@ -134,7 +136,7 @@ pub fn hold(ws: &mut [u32], s: u32, free: u32) -> Handed
     requires sound { Sound ws.old }
     requires free_is { FreeIs ws.old free }
     ensures outcome { Outcome (Call.hold s) ws.old (slot_answer result.answer) ws.new }
-    ensures free_is_2 { FreeIs ws.new result.free }
+    ensures free_after { FreeIs ws.new result.free }
 {
     match open(ws, s) {
         Opened::Refused(r) => Handed {
@@ -156,7 +158,7 @@ pub fn release(ws: &mut [u32], s: u32, free: u32) -> GivenUp
     requires sound { Sound ws.old }
     requires free_is { FreeIs ws.old free }
     ensures outcome { Outcome (Call.release s) ws.old (done_answer result.answer) ws.new }
-    ensures free_is_2 { FreeIs ws.new result.free }
+    ensures free_after { FreeIs ws.new result.free }
 {
     match enter(ws, s) {
         Entered::Refused(r) => GivenUp {

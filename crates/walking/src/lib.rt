@@ -1,5 +1,7 @@
 // The steps of a walk, on a sound arena: RULES 4.14 and 7. `red_black_tree_map` tests the arena
 // first.
+#![tactic(auto)]
+
 ghost use Rattle.std.specs.Prelude.{◌≡◌};
 ghost use Rattle.trees.specs.Range.{is_bad_range, front as atFront, back as atBack};
 ghost use Rattle.words.specs.Sound.{Sound};
@@ -14,7 +16,7 @@ use lookup::Found;
 use ranges::{Bound, Range};
 
 // RULES 7.1: what the caller keeps of a walk, by value.
-#[derive(Drop)]
+#[derive(Clone, Copy)]
 pub struct Walk {
     pub slot: u32,
     pub range: Range,

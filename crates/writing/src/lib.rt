@@ -1,5 +1,7 @@
 // Insert and remove, on a sound arena: RULES 4.10, 4.11, 4.37 and 4.38. `red_black_tree_map` tests
 // the arena first. Each takes the free number and gives it back.
+#![tactic(auto)]
+
 ghost use Rattle.std.specs.Prelude.{◌≡◌, ◌+◌, ◌<◌};
 ghost use Rattle.heights.specs.Choice.{if◌then◌else◌};
 ghost use Rattle.heights.specs.Height.{insert_reserve, remove_reserve};
@@ -89,7 +91,7 @@ pub fn insert(ws: &mut [u32], s: u32, e: Entry, free: u32) -> Handed
     requires sound { Sound ws.old }
     requires free_is { FreeIs ws.old free }
     ensures outcome { Outcome (Call.insert s (entry_of e)) ws.old (slot_answer result.answer) ws.new }
-    ensures free_is_2 { FreeIs ws.new result.free }
+    ensures free_after { FreeIs ws.new result.free }
 {
     match open(ws, s) {
         Opened::Refused(r) => Handed {
@@ -118,7 +120,7 @@ pub fn remove(ws: &mut [u32], s: u32, key: u32, free: u32) -> Handed
     requires sound { Sound ws.old }
     requires free_is { FreeIs ws.old free }
     ensures outcome { Outcome (Call.remove s key) ws.old (slot_answer result.answer) ws.new }
-    ensures free_is_2 { FreeIs ws.new result.free }
+    ensures free_after { FreeIs ws.new result.free }
 {
     match open(ws, s) {
         Opened::Refused(r) => Handed {

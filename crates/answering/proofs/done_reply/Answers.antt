@@ -1,0 +1,6 @@
+use borrow.Author.Rules.{rules}
+use Rattle.answering.proofs.Answered.{done_refused}
+use Rattle.answering.proofs.done_reply.Goals as goal
+
+pub returns-in-Refused : goal.returns-in-Refused
+returns-in-Refused c = search done_refused

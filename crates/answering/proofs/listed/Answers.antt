@@ -1,0 +1,6 @@
+use borrow.Author.Rules.{rules}
+use Rattle.answering.proofs.Answered.{line_replied}
+use Rattle.answering.proofs.listed.Goals as goal
+
+pub returns : goal.returns
+returns c = search line_replied

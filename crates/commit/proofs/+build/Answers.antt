@@ -1,0 +1,29 @@
+use borrow.Author.Rules.{rules}
+use mathlib.Core.Path.{refl}
+use Rattle.commit.proofs.Placed.{builds_low, builds_inside, builds_high, builds_lower, builds_left, builds_right, builds_makable, builds_here}
+use Prim.Native.Nat.{ℕ, ◌<◌}
+use Rattle.commit.proofs.+build.Goals as goal
+
+pub returns-then-link-n : goal.returns-then-link-n
+returns-then-link-n t c = search builds_low
+
+pub planned-d-requires : goal.planned-d-requires
+planned-d-requires t c = search builds_inside
+
+pub overflow_sub-h : goal.overflow_sub-h
+overflow_sub-h t c = search builds_high
+
+pub build-requires : goal.build-requires
+build-requires t c = (search builds_lower, search builds_left)
+
+pub overflow_sub-h-2 : goal.overflow_sub-h-2
+overflow_sub-h-2 t c = search builds_high
+
+pub build-requires-2 : goal.build-requires-2
+build-requires-2 t c = (search builds_lower, search builds_right)
+
+pub make_node-requires : goal.make_node-requires
+make_node-requires t c = builds_makable c.requires c.if-link-n.false c.planned-d.ensures c.build.ensures c.build-2.ensures _ refl
+
+pub returns : goal.returns
+returns t c = builds_here c.if-link-n.false c.planned-d.ensures c.build.ensures c.build-2.ensures refl refl refl refl c.make_node.ensures

@@ -1,0 +1,6 @@
+use borrow.Author.Rules.{rules}
+use Rattle.comparing.proofs.Ordering.{roots_compared}
+use Rattle.comparing.proofs.compare_roots.Goals as goal
+
+pub returns : goal.returns
+returns c = search roots_compared

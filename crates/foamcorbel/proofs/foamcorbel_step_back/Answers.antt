@@ -1,0 +1,6 @@
+use borrow.Author.Rules.{rules}
+use Rattle.foamcorbel.proofs.Steps.{step_gives}
+use Rattle.foamcorbel.proofs.foamcorbel_step_back.Goals as goal
+
+pub returns : goal.returns
+returns c = search step_gives

@@ -1,0 +1,6 @@
+use borrow.Author.Rules.{rules}
+use Rattle.foamcorbel.proofs.Steps.{difference_gives}
+use Rattle.foamcorbel.proofs.foamcorbel_step_difference.Goals as goal
+
+pub returns : goal.returns
+returns c = search difference_gives

@@ -1,0 +1,19 @@
+use borrow.Author.Rules.{rules}
+use Rattle.lookup.proofs.Descents.{rooted_inside, rooted_high, lower, rooted-sides, first_none, first_left}
+use Prim.Native.Nat.{ℕ, ◌<◌}
+use Rattle.lookup.proofs.+first_below.Goals as goal
+
+pub returns-then-i-eq0 : goal.returns-then-i-eq0
+returns-then-i-eq0 t c = search first_none
+
+pub node_at-d-requires : goal.node_at-d-requires
+node_at-d-requires t c = search rooted_inside
+
+pub overflow_sub-h : goal.overflow_sub-h
+overflow_sub-h t c = search rooted_high
+
+pub first_below-l-requires : goal.first_below-l-requires
+first_below-l-requires t c = (search lower, search rooted-sides)
+
+pub returns : goal.returns
+returns t c = search first_left

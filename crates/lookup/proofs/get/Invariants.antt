@@ -1,0 +1,12 @@
+use borrow.Author.Rules.{rules}
+use Rattle.trees.specs.Lookup.{get}
+use Rattle.lookup.specs.declared.Found.TheVariants.{Nothing}
+use Rattle.lookup.proofs.Descents.{rooted_inside, rooted_high, lower}
+use Rattle.lookup.proofs.Leading.{Leads, leads_start, get_end, get_found, get_childless, get_side}
+use Rattle.lookup.proofs.get.Given as goal
+
+abbrev pub invariant-loop-at : goal.invariant-loop-at
+invariant-loop-at l = Leads (get l.key) l.ws l.i l.at l.h Nothing
+
+abbrev pub decreases-loop-at : goal.decreases-loop-at
+decreases-loop-at l = l.h

@@ -1,0 +1,6 @@
+use borrow.Author.Rules.{rules}
+use Rattle.passing.proofs.AnswersPassed.{entry_passed}
+use Rattle.passing.proofs.pass_entry.Goals as goal
+
+pub returns-in-Entry : goal.returns-in-Entry
+returns-in-Entry c = search entry_passed

@@ -1,0 +1,6 @@
+use borrow.Author.Rules.{rules}
+use Rattle.passing.proofs.AnswersPassed.{number_passed}
+use Rattle.passing.proofs.pass_number.Goals as goal
+
+pub returns-in-Number : goal.returns-in-Number
+returns-in-Number c = search number_passed

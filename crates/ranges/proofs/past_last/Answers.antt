@@ -1,0 +1,6 @@
+use borrow.Author.Rules.{rules}
+use Rattle.ranges.proofs.Limits.{past_given}
+use Rattle.ranges.proofs.past_last.Goals as goal
+
+pub returns-in-Given : goal.returns-in-Given
+returns-in-Given c = search past_given

@@ -1,0 +1,9 @@
+use borrow.Author.Rules.{rules}
+use Rattle.red_black_tree_map.proofs.Tests.{tested_sound, unsound_refused}
+use Rattle.red_black_tree_map.proofs.step_back.Goals as goal
+
+pub returns-in_default : goal.returns-in_default
+returns-in_default c = search unsound_refused
+
+pub step_back-requires : goal.step_back-requires
+step_back-requires c = search tested_sound

@@ -1,0 +1,6 @@
+use borrow.Author.Rules.{rules}
+use Rattle.writing.proofs.Editing.{insert_fits}
+use Rattle.writing.proofs.insert_reserve.Goals as goal
+
+pub overflow_add-result : goal.overflow_add-result
+overflow_add-result c = search insert_fits
