@@ -1,6 +1,5 @@
 //! A difference, and the difference step of a revision: its public call and the function below the
 //! test, where the revision has them.
-use crate::revision::{Case, Slice};
 use std::ffi::c_void;
 use std::mem::transmute;
 use std::ptr::NonNull;
@@ -13,9 +12,9 @@ type Place = NonNull<c_void>;
 
 /// The words and how many they are, places of what the caller keeps and for the difference.
 type StepDifference = unsafe extern "C" fn(*const u32, usize, *const u32, *mut u32) -> u32;
-/// `differing::next_difference`: places for the answer and of the slice, the two roots, the place
-/// of the last key.
-type NextDifference = unsafe extern "C" fn(*mut Answered, *const Slice, u32, u32, *const Case);
+/// `differing::next_difference`: a place for the answer, the words and how many they are, the two
+/// roots, the case and the key of the last key.
+type NextDifference = unsafe extern "C" fn(*mut Answered, *const u32, usize, u32, u32, u8, u32);
 
 /// The kind, the key, the value in the first version, the value in the second.
 pub type Difference = [u32; 4];
@@ -115,11 +114,11 @@ impl DifferenceStep {
         lasts: &[Option<u32>],
         mut see: impl FnMut(Stepped),
     ) -> Option<()> {
-        let (next, slice, mut answered) = (self.below?, Slice::of(words), Answered::default());
+        let (next, mut answered) = (self.below?, Answered::default());
         for last in lasts {
-            let last = Case { number: u8::from(last.is_none()), key: last.unwrap_or_default() };
-            // SAFETY: the three places are as large as the kit's own; the rest is the caller's.
-            unsafe { next(&mut answered, &slice, roots.0, roots.1, &last) };
+            let (case, key) = (u8::from(last.is_none()), last.unwrap_or_default());
+            // SAFETY: the place is as large as the kit's own; the rest is the caller's.
+            unsafe { next(&mut answered, words.as_ptr(), words.len(), roots.0, roots.1, case, key) };
             see(answered.read());
         }
         Some(())

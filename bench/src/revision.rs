@@ -17,25 +17,14 @@ unsafe extern "C" {
 /// Every name is looked up at once.
 const RTLD_NOW: c_int = 2;
 
-/// `lookup::get` as the kit compiles it: places for the answer and of the slice, the root, the key.
-type Get = unsafe extern "C" fn(*mut Found, *const Slice, u32, u32);
-/// `comparing::compare_roots`: places for the sign and of the slice, the two roots.
-type Compare = unsafe extern "C" fn(*mut u8, *const Slice, u32, u32);
-/// `ranges::step_front` and `step_back`: places for the answer and of the slice, the root, the
-/// place of the range.
-type Step = unsafe extern "C" fn(*mut Found, *const Slice, u32, *const Range);
-
-#[repr(C)]
-pub struct Slice {
-    words: *const u32,
-    len: usize,
-}
-
-impl Slice {
-    pub fn of(words: &[u32]) -> Slice {
-        Slice { words: words.as_ptr(), len: words.len() }
-    }
-}
+/// `lookup::get` as the kit compiles it: a place for the answer, the words and how many they are,
+/// the root, the key.
+type Get = unsafe extern "C" fn(*mut Found, *const u32, usize, u32, u32);
+/// `comparing::compare_roots`: the words and how many they are, the two roots.
+type Compare = unsafe extern "C" fn(*const u32, usize, u32, u32) -> u8;
+/// `ranges::step_front` and `step_back`: a place for the answer, the words and how many they are,
+/// the root, the place of the range.
+type Step = unsafe extern "C" fn(*mut Found, *const u32, usize, u32, *const Range);
 
 /// `lookup::Found`: its first byte is 0 where there is an entry.
 #[repr(C)]
@@ -150,10 +139,10 @@ impl Revision {
         keys: &[u32],
         mut see: impl FnMut(Option<u32>),
     ) -> Option<()> {
-        let (get, slice, mut found) = (self.inner.get?, Slice::of(words), Found::default());
+        let (get, mut found) = (self.inner.get?, Found::default());
         for key in keys {
-            // SAFETY: both places are as large as the kit's own; the rest is the caller's.
-            unsafe { get(&mut found, &slice, root, *key) };
+            // SAFETY: the place is as large as the kit's own; the rest is the caller's.
+            unsafe { get(&mut found, words.as_ptr(), words.len(), root, *key) };
             see((found.nothing == 0).then_some(found.value));
         }
         Some(())
@@ -164,9 +153,9 @@ impl Revision {
     /// # Safety
     /// The words are a sound arena, and the roots are held slots'.
     pub unsafe fn compare(&self, words: &[u32], roots: (u32, u32), mut see: impl FnMut(Answer)) -> Option<()> {
-        let (compare, slice, mut sign) = (self.inner.compare?, Slice::of(words), 0);
-        // SAFETY: both places are as large as the kit's own; the rest is the caller's.
-        unsafe { compare(&mut sign, &slice, roots.0, roots.1) };
+        let compare = self.inner.compare?;
+        // SAFETY: the caller's.
+        let sign = unsafe { compare(words.as_ptr(), words.len(), roots.0, roots.1) };
         // `answers::Sign` is less, same, more.
         see(Answer::Word(u32::from(sign).wrapping_sub(1)));
         Some(())
@@ -184,10 +173,10 @@ impl Revision {
         mut see: impl FnMut(Answer),
     ) -> Option<()> {
         let step = if end == End::Front { self.inner.step_front? } else { self.inner.step_back? };
-        let (slice, mut found) = (Slice::of(words), Found::default());
+        let mut found = Found::default();
         for range in ranges {
-            // SAFETY: the three places are as large as the kit's own; the rest is the caller's.
-            unsafe { step(&mut found, &slice, root, range) };
+            // SAFETY: both places are as large as the kit's own; the rest is the caller's.
+            unsafe { step(&mut found, words.as_ptr(), words.len(), root, range) };
             see(if found.nothing == 0 { Answer::Entry(found.key, found.value) } else { Answer::Refused(END) });
         }
         Some(())

@@ -22,8 +22,8 @@
 //! Each call first tests that the arena is sound, so that any words may be lent. That takes time in
 //! proportion to their number, and a step of a [`Range`] or of [`Differences`] is such a call too.
 //!
-//! The build looks for `libfoamcorbel.a` in the folder that the variable `FOAMCORBEL_LIB_DIR` names, and without it where `rt staticlib foamcorbel`
-//! writes it in the repository.
+//! The build looks for `libfoamcorbel.a` in the folder that the variable `FOAMCORBEL_LIB_DIR` names, and without it where `rt lib` writes it in
+//! the repository's `crates/foamcorbel`.
 #![no_std]
 #![deny(missing_docs)]
 
