@@ -1,4 +1,3 @@
-use borrow.Author.Rules.{rules}
 use Rattle.answers.proofs.Entries.{rooted}
 use Rattle.comparing.proofs.Answering.{compare_refused, compare_other_refused, compare_told}
 use Rattle.comparing.proofs.compare.Goals as goal

@@ -1,4 +1,3 @@
-use borrow.Author.Rules.{rules}
 use Rattle.comparing.proofs.Ordering.{roots_compared}
 use Rattle.comparing.proofs.compare_roots.Goals as goal
 

@@ -1,4 +1,3 @@
-use borrow.Author.Rules.{rules}
 use Rattle.answers.proofs.Entries.{rooted}
 use Rattle.comparing.proofs.Answering.{equal_refused, equal_other_refused, equal_told}
 use Rattle.comparing.proofs.equal.Goals as goal

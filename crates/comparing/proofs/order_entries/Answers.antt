@@ -1,4 +1,3 @@
-use borrow.Author.Rules.{rules}
 use Rattle.comparing.proofs.Ordering.{entries_less, entries_same, entries_more}
 use Rattle.comparing.proofs.order_entries.Goals as goal
 

@@ -1,4 +1,3 @@
-use borrow.Author.Rules.{rules}
 use Rattle.comparing.proofs.Ordering.{heads_both}
 use Rattle.comparing.proofs.order_heads.Goals as goal
 

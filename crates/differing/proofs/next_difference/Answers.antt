@@ -1,5 +1,4 @@
 use Rattle.differing.proofs.Nexts.{descends_root, differs}
-use borrow.Author.Rules.{rules}
 use Rattle.differing.proofs.next_difference.Goals as goal
 
 pub fill-p-requires : goal.fill-p-requires

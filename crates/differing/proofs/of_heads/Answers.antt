@@ -1,5 +1,4 @@
 use Rattle.differing.proofs.Nexts.{none_left, second_left, first_left, both_left}
-use borrow.Author.Rules.{rules}
 use Rattle.differing.proofs.of_heads.Goals as goal
 
 pub returns-in-Nothing-other : goal.returns-in-Nothing-other

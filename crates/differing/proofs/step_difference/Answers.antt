@@ -1,5 +1,4 @@
 use Rattle.differing.proofs.Answering.{entered_ordered, first_refused, second_refused, difference_told}
-use borrow.Author.Rules.{rules}
 use Rattle.differing.proofs.step_difference.Goals as goal
 
 pub next_difference-requires : goal.next_difference-requires

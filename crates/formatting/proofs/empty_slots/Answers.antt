@@ -1,6 +1,3 @@
-use Prim.Native.Nat.{◌-◌}
-use borrow.Author.Rules.{rules}
-use Rattle.formatting.specs.Steps.{EmptyBelow}
 use Rattle.formatting.proofs.Emptied.{empty_start, empty_inside, empty_more, empty_end}
 use Rattle.formatting.proofs.empty_slots.Goals as goal
 

@@ -1,4 +1,3 @@
-use borrow.Author.Rules.{rules}
 use Rattle.formatting.proofs.Whole.{format_refused, header_inside, nodes_inside, none_free, slots_inside, format_done}
 use Rattle.formatting.proofs.format.Goals as goal
 

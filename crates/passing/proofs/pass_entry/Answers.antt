@@ -1,4 +1,3 @@
-use borrow.Author.Rules.{rules}
 use Rattle.passing.proofs.AnswersPassed.{entry_passed}
 use Rattle.passing.proofs.pass_entry.Goals as goal
 

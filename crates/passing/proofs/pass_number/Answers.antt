@@ -1,4 +1,3 @@
-use borrow.Author.Rules.{rules}
 use Rattle.passing.proofs.AnswersPassed.{number_passed}
 use Rattle.passing.proofs.pass_number.Goals as goal
 

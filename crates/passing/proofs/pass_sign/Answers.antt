@@ -1,4 +1,3 @@
-use borrow.Author.Rules.{rules}
 use Rattle.passing.proofs.AnswersPassed.{sign_passed}
 use Rattle.passing.proofs.pass_sign.Goals as goal
 

@@ -1,4 +1,3 @@
-use borrow.Author.Rules.{rules}
 use Rattle.passing.proofs.AnswersPassed.{slot_passed}
 use Rattle.passing.proofs.pass_slot.Goals as goal
 

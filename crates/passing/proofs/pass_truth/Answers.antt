@@ -1,4 +1,3 @@
-use borrow.Author.Rules.{rules}
 use Rattle.passing.proofs.AnswersPassed.{truth_passed}
 use Rattle.passing.proofs.pass_truth.Goals as goal
 

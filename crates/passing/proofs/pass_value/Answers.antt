@@ -1,4 +1,3 @@
-use borrow.Author.Rules.{rules}
 use Rattle.passing.proofs.AnswersPassed.{value_passed}
 use Rattle.passing.proofs.pass_value.Goals as goal
 

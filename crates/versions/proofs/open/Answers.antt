@@ -1,4 +1,3 @@
-use borrow.Author.Rules.{rules}
 use Rattle.answers.proofs.Entries.{header_inside, held_inside}
 use Rattle.versions.proofs.Opening.{open_full, open_refused, open_at}
 use Rattle.versions.proofs.open.Goals as goal

@@ -1,9 +1,4 @@
-use borrow.Author.Rules.{rules}
-use lib.ListN.{length}
-use Rattle.words.specs.Layout.{max_height}
-use Rattle.ranges.specs.Ranges.{last_of}
-use Rattle.abreast.specs.Sides.{listed}
-use Rattle.differing.proofs.Descents.{Filling, filling_start, filling_more, filling_end}
+use Rattle.differing.proofs.Descents.{filling_start, filling_more, filling_end}
 use Rattle.differing.proofs.filling.fill.Goals as goal
 
 pub loop-at-init : goal.loop-at-init

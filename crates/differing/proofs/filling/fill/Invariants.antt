@@ -1,9 +1,8 @@
-use borrow.Author.Rules.{rules}
 use lib.ListN.{length}
 use Rattle.words.specs.Layout.{max_height}
 use Rattle.ranges.specs.Ranges.{last_of}
 use Rattle.abreast.specs.Sides.{listed}
-use Rattle.differing.proofs.Descents.{Filling, filling_start, filling_more, filling_end}
+use Rattle.differing.proofs.Descents.{Filling}
 use Rattle.differing.proofs.filling.fill.Given as goal
 
 abbrev pub invariant-loop-at : goal.invariant-loop-at

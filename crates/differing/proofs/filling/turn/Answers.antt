@@ -1,6 +1,4 @@
-use borrow.Author.Tests.{not-true, not-false}
 use Rattle.differing.proofs.Descents.{turn_inside, turn_right, turn_left}
-use borrow.Author.Rules.{rules}
 use Rattle.differing.proofs.filling.turn.Goals as goal
 
 pub node_at-d-requires : goal.node_at-d-requires

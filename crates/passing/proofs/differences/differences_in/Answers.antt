@@ -1,4 +1,3 @@
-use borrow.Author.Rules.{rules}
 use Rattle.passing.proofs.DifferencesPassed.{differences_read}
 use Rattle.passing.proofs.differences.differences_in.Goals as goal
 

@@ -1,4 +1,3 @@
-use borrow.Author.Rules.{rules}
 use Rattle.passing.proofs.DifferencesPassed.{row_passed}
 use Rattle.passing.proofs.differences.pass_difference.Goals as goal
 

@@ -1,4 +1,3 @@
-use borrow.Author.Rules.{rules}
 use Rattle.passing.proofs.WalkRead.{walk_read}
 use Rattle.passing.proofs.walks.walk_in.Goals as goal
 
