@@ -35,8 +35,6 @@ use Rattle.insertion.specs.Promises.{insert_room, News}
 use Rattle.removal.specs.Promises.{remove_room, RedBlack, Removes}
 use Rattle.removal.proofs.Present.{sound_red_black}
 use Rattle.commit.proofs.Planning.{reads_live}
-use Rattle.calls.specs.Refusal as calls
-use Rattle.calls.specs.Call as call
 use Rattle.calls.specs.Version.{VersionIs}
 use Rattle.calls.proofs.Versions.{version_of, version_fine, version_size, version_root}
 use Rattle.versions.specs.declared.Parent.{Parent}

@@ -1,4 +1,3 @@
-use borrow.Author.Rules.{rules}
 use Rattle.answering.proofs.Answered.{new_replied, hold_replied, set_replied, cut_replied, drop_replied, get_replied, list_replied}
 use Rattle.answering.proofs.answer.Goals as goal
 

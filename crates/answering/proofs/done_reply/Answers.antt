@@ -1,4 +1,3 @@
-use borrow.Author.Rules.{rules}
 use Rattle.answering.proofs.Answered.{done_refused}
 use Rattle.answering.proofs.done_reply.Goals as goal
 

@@ -1,4 +1,3 @@
-use borrow.Author.Rules.{rules}
 use Rattle.answering.proofs.Answered.{entry_given, entry_refused}
 use Rattle.answering.proofs.entry_reply.Goals as goal
 

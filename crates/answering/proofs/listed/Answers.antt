@@ -1,4 +1,3 @@
-use borrow.Author.Rules.{rules}
 use Rattle.answering.proofs.Answered.{line_replied}
 use Rattle.answering.proofs.listed.Goals as goal
 

@@ -1,4 +1,3 @@
-use borrow.Author.Rules.{rules}
 use Rattle.answering.proofs.Answered.{ends, refuses}
 use Rattle.answering.proofs.refusal_reply.Goals as goal
 

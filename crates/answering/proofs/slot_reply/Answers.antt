@@ -1,4 +1,3 @@
-use borrow.Author.Rules.{rules}
 use Rattle.answering.proofs.Answered.{slot_given, slot_refused}
 use Rattle.answering.proofs.slot_reply.Goals as goal
 

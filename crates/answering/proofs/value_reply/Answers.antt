@@ -1,4 +1,3 @@
-use borrow.Author.Rules.{rules}
 use Rattle.answering.proofs.Answered.{value_given, value_refused}
 use Rattle.answering.proofs.value_reply.Goals as goal
 

@@ -1,4 +1,3 @@
-use borrow.Author.Rules.{rules}
 use Rattle.foamcorbel.proofs.Steps.{step_gives}
 use Rattle.foamcorbel.proofs.foamcorbel_step_front.Goals as goal
 

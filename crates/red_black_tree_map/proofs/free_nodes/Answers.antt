@@ -1,4 +1,3 @@
-use borrow.Author.Rules.{rules}
 use Rattle.red_black_tree_map.proofs.Tests.{unsound_refused, free_told}
 use Rattle.red_black_tree_map.proofs.free_nodes.Goals as goal
 

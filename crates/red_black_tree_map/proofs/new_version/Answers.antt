@@ -1,4 +1,3 @@
-use borrow.Author.Rules.{rules}
 use Rattle.red_black_tree_map.proofs.Tests.{tested_sound, tested_free, unsound_refused}
 use Rattle.red_black_tree_map.proofs.new_version.Goals as goal
 

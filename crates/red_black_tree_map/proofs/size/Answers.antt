@@ -1,4 +1,3 @@
-use borrow.Author.Rules.{rules}
 use Rattle.red_black_tree_map.proofs.Tests.{tested_sound, unsound_refused}
 use Rattle.red_black_tree_map.proofs.size.Goals as goal
 

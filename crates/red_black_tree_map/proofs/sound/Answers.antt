@@ -1,4 +1,3 @@
-use borrow.Author.Rules.{rules}
 use Rattle.red_black_tree_map.proofs.Tests.{sound_told, unsound_told}
 use Rattle.red_black_tree_map.proofs.sound.Goals as goal
 

@@ -1,4 +1,3 @@
-use borrow.Author.Rules.{rules}
 use Rattle.writing.proofs.Committing.{commit_header, commit_countable, commit_raisable, commit_buildable, commit_inside, commit_puts}
 use Rattle.writing.proofs.commit_to.Goals as goal
 

@@ -1,4 +1,3 @@
-use borrow.Author.Rules.{rules}
 use Rattle.arena.specs.Nodes.{entry_of}
 use Rattle.writing.proofs.Editing.{insert_scratch, insert_held, parent_small, insert_planned, insert_edits}
 use Rattle.writing.proofs.insert_into.Goals as goal

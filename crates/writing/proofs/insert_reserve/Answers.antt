@@ -1,4 +1,3 @@
-use borrow.Author.Rules.{rules}
 use Rattle.writing.proofs.Editing.{insert_fits}
 use Rattle.writing.proofs.insert_reserve.Goals as goal
 

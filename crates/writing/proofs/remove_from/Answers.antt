@@ -1,4 +1,3 @@
-use borrow.Author.Rules.{rules}
 use Rattle.writing.proofs.Editing.{remove_scratch, remove_held, remove_some, remove_planned, remove_edits}
 use Rattle.writing.proofs.remove_from.Goals as goal
 

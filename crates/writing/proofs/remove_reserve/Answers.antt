@@ -1,4 +1,3 @@
-use borrow.Author.Rules.{rules}
 use Rattle.writing.proofs.Editing.{remove_fits, remove_fits_more}
 use Rattle.writing.proofs.remove_reserve.Goals as goal
 

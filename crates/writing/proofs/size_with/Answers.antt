@@ -1,4 +1,3 @@
-use borrow.Author.Rules.{rules}
 use Rattle.writing.proofs.Editing.{size-new, size_old}
 use Rattle.writing.proofs.size_with.Goals as goal
 
