@@ -1,8 +1,7 @@
 -- What the program makes of a command, RULES 9.6 to 9.13: the call, and the reply to what the call
 -- answers.
-use Rattle.std.specs.Prelude.{◌≡◌, List, ℕ, ◌≤◌, eqb}
+use Rattle.std.specs.Prelude.{◌≡◌, List, ℕ, ◌≤◌, eqb, if◌then◌else◌}
 use Rattle.std.proofs.Math.Option.{Option, none}
-use Rattle.heights.specs.Choice.{if◌then◌else◌}
 use Rattle.trees.specs.Range.{unbounded, front}
 use Rattle.calls.specs.Refusal.{Refusal, number}
 use Rattle.calls.specs.Call.{Walk, Call, Answer}

@@ -5,7 +5,7 @@ use mathlib.Core.List.{List}
 use mathlib.Core.Option.{some}
 use Prim.Native.Nat.{ℕ, ◌+◌, ◌-◌, ◌^◌, ◌≤◌, ◌<◌}
 use native.Mathlib.Omega.{arith}
-use Rattle.heights.specs.Choice.{if◌then◌else◌}
+use Rattle.std.specs.Prelude.{if◌then◌else◌}
 use Rattle.heights.specs.Height.{insert_reserve, remove_reserve}
 use Rattle.trees.specs.Tree.{Entry, Tree, listing, size, made}
 use Rattle.trees.specs.Listing.{find, is_some}

@@ -8,7 +8,7 @@ use Prim.Native.Nat.{ℕ}
 use native.Mathlib.Omega.{arith}
 use lib.Dec.{eqb}
 use borrow.Author.Tests.{eqb-true, eqb-false}
-use Rattle.heights.specs.Choice.{if◌then◌else◌}
+use Rattle.std.specs.Prelude.{if◌then◌else◌}
 use Rattle.trees.specs.Tree.{Entry, Tree, leaf, listing}
 use Rattle.trees.specs.Listing.{find, first_of, last_of, cut}
 use Rattle.trees.specs.Edit.{Edit, setting, cutting, edited}

@@ -8,7 +8,7 @@ use mathlib.Core.Option.{Option, none, some}
 use Prim.Native.Nat.{ℕ, ◌≤◌, ◌<◌}
 use native.Mathlib.Omega.{arith}
 use borrow.Author.Tests.{lt-ltb, le-ltb}
-use Rattle.heights.specs.Choice.{if◌then◌else◌}
+use Rattle.std.specs.Prelude.{if◌then◌else◌}
 use Rattle.trees.specs.Tree.{Entry}
 use Rattle.trees.specs.Listing.{Above, Ascending, first_of, last_of, or_else}
 use Rattle.trees.specs.Range.{End, front, back, Range, from_start, to_end, past, after_front, before_back, remains, keep, next, stepped}

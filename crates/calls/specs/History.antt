@@ -1,8 +1,7 @@
 -- RULES 14.4 to 14.9, demand 3: a format, then any calls; what each slot should then hold; and what
 -- holds after every call.
-use Rattle.std.specs.Prelude.{◌≡◌, List, [], ℕ, ◌+◌, ◌≤◌, eqb, length}
+use Rattle.std.specs.Prelude.{◌≡◌, List, [], ℕ, ◌+◌, ◌≤◌, eqb, length, if◌then◌else◌}
 use Rattle.std.proofs.Math.Option.{Option, none, some}
-use Rattle.heights.specs.Choice.{if◌then◌else◌}
 use Rattle.heights.specs.Height.{H}
 use Rattle.trees.specs.Tree.{Entry, Tree, listing, height}
 use Rattle.trees.specs.Edit.{Edit, edited}

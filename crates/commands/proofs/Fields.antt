@@ -6,7 +6,7 @@ use mathlib.Core.List.{List, [], ◌∷◌, ◌++◌}
 use mathlib.Core.Option.{Option, none, some}
 use lib.Dec.{eqb}
 use borrow.Author.Tests.{eqb-true}
-use Rattle.heights.specs.Choice.{if◌then◌else◌}
+use Rattle.std.specs.Prelude.{if◌then◌else◌}
 use Rattle.decimal.specs.Decimal.{largest, digits}
 use Rattle.decimal.specs.Numbers.{number}
 use Rattle.decimal.proofs.Numbers.{Stops, Is, number-text, from_stops, number_is}

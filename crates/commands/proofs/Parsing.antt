@@ -6,7 +6,7 @@ use mathlib.Core.List.{List, [], ◌∷◌, ◌++◌}
 use mathlib.Core.Option.{Option, none, some}
 use native.Mathlib.Omega.{arith}
 use lib.ListN.{length, drop}
-use Rattle.heights.specs.Choice.{if◌then◌else◌}
+use Rattle.std.specs.Prelude.{if◌then◌else◌}
 use Rattle.heights.proofs.Choices.{fork}
 use Rattle.decimal.specs.Decimal.{largest, digits, digits_within}
 use Rattle.commands.specs.declared.Command.{Command}
@@ -110,13 +110,13 @@ word_list = name (Command.List 0)
 read : List ℕ → Line
 read line =
     if begins word_new line then says_new (drop 3 line)
-    else if begins word_hold line then says_hold (one_in (drop 4 line))
-    else if begins word_set line then says_set (three_in (drop 3 line))
-    else if begins word_cut line then says_cut (two_in (drop 3 line))
-    else if begins word_drop line then says_drop (one_in (drop 4 line))
-    else if begins word_get line then says_get (two_in (drop 3 line))
-    else if begins word_list line then says_list (one_in (drop 4 line))
-    else Line.Unknown
+    else (if begins word_hold line then says_hold (one_in (drop 4 line))
+    else (if begins word_set line then says_set (three_in (drop 3 line))
+    else (if begins word_cut line then says_cut (two_in (drop 3 line))
+    else (if begins word_drop line then says_drop (one_in (drop 4 line))
+    else (if begins word_get line then says_get (two_in (drop 3 line))
+    else (if begins word_list line then says_list (one_in (drop 4 line))
+    else Line.Unknown))))))
 
 read_text : (c : Command) → Within (numbers c) → read (text c) ≡ Line.Says c
 unfolding read begins spaced

@@ -1,7 +1,6 @@
 -- How a line is taken apart, from its front on: what the private functions are held to. `Reads` of Text.antt is what the whole is held to.
-use Rattle.std.specs.Prelude.{ℕ, Bool, true, false, ◌&&◌, List, [], ◌∷◌, eqb}
+use Rattle.std.specs.Prelude.{ℕ, Bool, true, false, ◌&&◌, List, [], ◌∷◌, eqb, if◌then◌else◌}
 use Rattle.std.proofs.Math.Option.{Option, none, some}
-use Rattle.heights.specs.Choice.{if◌then◌else◌}
 use Rattle.decimal.specs.Numbers.{number}
 use Rattle.commands.specs.declared.Command.{Command}
 use Rattle.commands.specs.declared.Line.{Line}

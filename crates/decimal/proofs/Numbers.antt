@@ -8,7 +8,7 @@ use native.Mathlib.Omega.{arith}
 use native.Mathlib.Decide.{dec_lt}
 use lib.Dec.{leb}
 use borrow.Author.Tests.{lt-ltb, le-ltb, le-leb, lt-leb, leb-true, ne_eqb}
-use Rattle.heights.specs.Choice.{if◌then◌else◌}
+use Rattle.std.specs.Prelude.{if◌then◌else◌}
 use Rattle.decimal.specs.Decimal.{largest, digit, digits}
 use Rattle.decimal.specs.Numbers.{is_digit, number_from, number}
 use Rattle.decimal.proofs.Digits.{along, digits-one, digits_more, digits_append}

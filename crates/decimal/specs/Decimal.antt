@@ -1,6 +1,5 @@
 -- RULES 9.5: the decimal text of a number, as bytes: "no leading zeros, and 0 is `0`".
-use Rattle.std.specs.Prelude.{ℕ, zero, suc, ◌+◌, ◌/◌, ◌%◌, List, [], ◌∷◌, ◌++◌, ltb}
-use Rattle.heights.specs.Choice.{if◌then◌else◌}
+use Rattle.std.specs.Prelude.{ℕ, zero, suc, ◌+◌, ◌/◌, ◌%◌, List, [], ◌∷◌, ◌++◌, ltb, if◌then◌else◌}
 
 -- RULES 9.5: "at most 4,294,967,295".
 abbrev pub largest : ℕ

@@ -1,7 +1,6 @@
 -- How a number is read from the front of a text: what `number` is held to.
-use Rattle.std.specs.Prelude.{ℕ, ◌+◌, ◌-◌, ◌*◌, ◌≡◌, Bool, ◌&&◌, List, [], ◌∷◌, leb, ltb, eqb, drop}
+use Rattle.std.specs.Prelude.{ℕ, ◌+◌, ◌-◌, ◌*◌, ◌≡◌, Bool, ◌&&◌, List, [], ◌∷◌, leb, ltb, eqb, drop, if◌then◌else◌}
 use Rattle.std.proofs.Math.Option.{Option, none, some}
-use Rattle.heights.specs.Choice.{if◌then◌else◌}
 use Rattle.decimal.specs.Decimal.{largest}
 use Rattle.decimal.specs.declared.Found.{Found}
 
@@ -14,7 +13,7 @@ unfoldable pub number_from : ℕ → List ℕ → Option (ℕ × List ℕ)
 number_from v [] = some (v, [])
 number_from v (b ∷ rest) =
     let more : Option (ℕ × List ℕ) = number_from (v * 10 + (b - 48)) rest in
-    if is_digit b then (if eqb v 0 then none else if ltb largest (v * 10 + (b - 48)) then none else more) else some (v, b ∷ rest)
+    if is_digit b then (if eqb v 0 then none else (if ltb largest (v * 10 + (b - 48)) then none else more)) else some (v, b ∷ rest)
 
 unfoldable pub number : List ℕ → Option (ℕ × List ℕ)
 number [] = none

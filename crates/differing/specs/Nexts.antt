@@ -1,7 +1,6 @@
 -- What differs next between two versions, from where their listings above the last key part.
-use Rattle.std.specs.Prelude.{◌≡◌, List, ℕ, ltb}
+use Rattle.std.specs.Prelude.{◌≡◌, List, ℕ, ltb, if◌then◌else◌}
 use Rattle.std.proofs.Math.Option.{Option, none, some}
-use Rattle.heights.specs.Choice.{if◌then◌else◌}
 use Rattle.trees.specs.Tree.{Entry, Tree, listing}
 use Rattle.trees.specs.Listing.{Ascending}
 use Rattle.trees.specs.Difference.{Difference, only_first, only_second, in_both, next_difference}
@@ -18,8 +17,8 @@ use Rattle.answers.specs.Answers.{difference_answer}
 abbrev pub entries_differ : Entry → Entry → Difference
 entries_differ e f =
     if ltb e.key f.key then only_first e
-    else if ltb f.key e.key then only_second f
-    else in_both e f
+    else (if ltb f.key e.key then only_second f
+    else in_both e f)
 
 abbrev pub heads_differ : Option Entry → Option Entry → Option Difference
 heads_differ none none = none

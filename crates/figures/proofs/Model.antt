@@ -8,7 +8,7 @@ use native.Mathlib.Omega.{arith}
 use lib.Dec.{eqb, ltb}
 use lib.ListN.{length}
 use borrow.Author.Tests.{ltb-true, ltb-false, eqb-true, eqb-false}
-use Rattle.heights.specs.Choice.{if◌then◌else◌}
+use Rattle.std.specs.Prelude.{if◌then◌else◌}
 use Rattle.heights.specs.Height.{insert_reserve, remove_reserve}
 use Rattle.trees.specs.Tree.{Entry, Tree, leaf, listing, size, made}
 use Rattle.trees.specs.Listing.{find}

@@ -3,7 +3,7 @@ use mathlib.Core.Path.{◌≡◌, refl, ap, sym, ◌∙◌}
 use mathlib.Core.Bool.{Bool, true, false}
 use mathlib.Core.List.{List}
 use Prim.Native.Nat.{ℕ}
-use Rattle.heights.specs.Choice.{if◌then◌else◌}
+use Rattle.std.specs.Prelude.{if◌then◌else◌}
 use Rattle.trees.specs.Tree.{Entry, Color, red, black, Place, kept, fresh, Tree, leaf, node, lf, rt, en, is_red, is_black, paint, copy, listing, size, made}
 use Rattle.trees.specs.Lookup.{has}
 use Rattle.trees.specs.Insert.{balance, ins, insert}

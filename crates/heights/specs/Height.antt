@@ -1,6 +1,5 @@
 -- RULES 5: the height H that no version of n entries exceeds, and the reserves made of it.
-use Rattle.std.specs.Prelude.{ℕ, zero, suc, ◌+◌, ◌*◌, ◌^◌, ◌≤◌, ◌<◌, leb}
-use Rattle.heights.specs.Choice.{if◌then◌else◌}
+use Rattle.std.specs.Prelude.{ℕ, zero, suc, ◌+◌, ◌*◌, ◌^◌, ◌≤◌, ◌<◌, leb, if◌then◌else◌}
 
 -- RULES 5.2: "floor(log2(n)) is the e for which 2^e ≤ n < 2^(e + 1)."
 pub record IsLog (n e : ℕ) : Type 0 where

@@ -8,7 +8,7 @@ use Prim.Native.Nat.{ℕ, ◌-◌}
 use native.Mathlib.Omega.{arith}
 use lib.Dec.{ltb}
 use borrow.Author.Tests.{ltb-true, ltb-false}
-use Rattle.heights.specs.Choice.{if◌then◌else◌}
+use Rattle.std.specs.Prelude.{if◌then◌else◌}
 use Rattle.heights.proofs.Choices.{fork}
 use Rattle.trees.specs.Tree.{Entry, Tree}
 use Rattle.trees.specs.Lookup.{get}

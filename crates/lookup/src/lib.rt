@@ -2,8 +2,7 @@
 // loop; `first`, `last`: recursive descents".
 #![tactic(auto)]
 
-ghost use Rattle.std.specs.Prelude.{◌≡◌, ltb};
-ghost use Rattle.heights.specs.Choice.{if◌then◌else◌};
+ghost use Rattle.std.specs.Prelude.{◌≡◌, ltb, if◌then◌else◌};
 ghost use Rattle.words.specs.Layout.{max_height};
 ghost use Rattle.trees.specs.Listing.{or_else};
 ghost use Rattle.trees.specs.Lookup.{get as getOf, first as firstIn, last as last_in};

@@ -8,7 +8,7 @@ use mathlib.Core.Option.{Option, none, some}
 use native.Mathlib.Omega.{arith}
 use lib.Dec.{eqb}
 use borrow.Author.Tests.{lt-ltb, le-ltb, eqb-true}
-use Rattle.heights.specs.Choice.{if◌then◌else◌}
+use Rattle.std.specs.Prelude.{if◌then◌else◌}
 use Rattle.heights.proofs.Choices.{fork, compared}
 use Rattle.trees.specs.Tree.{Entry}
 use Rattle.trees.specs.Listing.{find, first_of, AboveBy, Above, Ascending}

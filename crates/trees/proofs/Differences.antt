@@ -6,7 +6,7 @@ use mathlib.Core.Bool.{Bool, true, false, true≢false}
 use mathlib.Core.List.{List, [], ◌∷◌, ◌++◌, map, append-nil}
 use native.Mathlib.Omega.{arith}
 use borrow.Author.Tests.{lt-ltb, le-ltb}
-use Rattle.heights.specs.Choice.{if◌then◌else◌}
+use Rattle.std.specs.Prelude.{if◌then◌else◌}
 use Rattle.heights.proofs.Choices.{compared}
 use Rattle.trees.specs.Tree.{Entry}
 use Rattle.trees.specs.Order.{Sign, less, same, more, ◌and_then◌, compare_entries, compare, is_same, equal}

@@ -8,7 +8,7 @@ use native.Mathlib.Omega.{arith}
 use lib.Dec.{ltb, eqb}
 use lib.ListN.{length}
 use borrow.Author.Tests.{lt-ltb, le-ltb, ne_eqb, eq-eqb}
-use Rattle.heights.specs.Choice.{if◌then◌else◌}
+use Rattle.std.specs.Prelude.{if◌then◌else◌}
 use Rattle.heights.proofs.Choices.{fork, compared}
 use Rattle.trees.specs.Tree.{Entry}
 use Rattle.trees.specs.Listing.{find, put, cut, is_some, Above, Below, Ascending}
@@ -49,8 +49,8 @@ module _ (x : Entry) where
   put_left (z ∷ xs) e ys h = go (ltb x.key z.key) (ltb z.key x.key) (put_left xs e ys h)
     where
       go : (b c : Bool) → put x (xs ++ (e ∷ ys)) ≡ put x xs ++ (e ∷ ys) →
-          (if b then x ∷ (z ∷ (xs ++ (e ∷ ys))) else if c then z ∷ put x (xs ++ (e ∷ ys)) else x ∷ (xs ++ (e ∷ ys)))
-          ≡ (if b then x ∷ (z ∷ xs) else if c then z ∷ put x xs else x ∷ xs) ++ (e ∷ ys)
+          (if b then x ∷ (z ∷ (xs ++ (e ∷ ys))) else (if c then z ∷ put x (xs ++ (e ∷ ys)) else x ∷ (xs ++ (e ∷ ys))))
+          ≡ (if b then x ∷ (z ∷ xs) else (if c then z ∷ put x xs else x ∷ xs)) ++ (e ∷ ys)
       go true c ih = refl
       go false true ih = ap (λ (l : List Entry). z ∷ l) ih
       go false false ih = refl

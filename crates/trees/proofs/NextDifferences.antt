@@ -8,7 +8,7 @@ use mathlib.Core.Option.{Option, none, some}
 use native.Mathlib.Omega.{arith}
 use lib.Dec.{eqb}
 use borrow.Author.Tests.{eq-eqb, ne_eqb}
-use Rattle.heights.specs.Choice.{if◌then◌else◌}
+use Rattle.std.specs.Prelude.{if◌then◌else◌}
 use Rattle.trees.specs.Tree.{Entry}
 use Rattle.trees.specs.Listing.{find, first_of, AboveBy, Ascending}
 use Rattle.trees.specs.Difference.{Difference, differences, tag_of, beyond, keep_tags, next_difference, AscendingTags, find_tag, difference_at}

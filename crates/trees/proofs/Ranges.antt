@@ -6,7 +6,7 @@ use mathlib.Core.List.{List, [], ◌∷◌, ◌++◌, append-nil}
 use mathlib.Core.Option.{Option, none, some}
 use native.Mathlib.Omega.{arith}
 use borrow.Author.Tests.{ltb-true, leb-true, lt-ltb, le-leb}
-use Rattle.heights.specs.Choice.{if◌then◌else◌}
+use Rattle.std.specs.Prelude.{if◌then◌else◌}
 use Rattle.heights.proofs.Choices.{fork}
 use Rattle.trees.specs.Tree.{Entry, Tree, leaf, node, listing}
 use Rattle.trees.specs.Listing.{first_of, last_of, or_else, Above, Below, Ascending}

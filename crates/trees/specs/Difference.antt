@@ -1,7 +1,6 @@
 -- RULES 8.7 to 8.9: in what two listings differ.
-use Rattle.std.specs.Prelude.{ℕ, ◌≡◌, Bool, List, [], ◌∷◌, map, ltb, eqb}
+use Rattle.std.specs.Prelude.{ℕ, ◌≡◌, Bool, List, [], ◌∷◌, map, ltb, eqb, if◌then◌else◌}
 use Rattle.std.proofs.Math.Option.{Option, none, some}
-use Rattle.heights.specs.Choice.{if◌then◌else◌}
 use Rattle.trees.specs.Tree.{Entry}
 use Rattle.trees.specs.Listing.{AscendingBy, first_of}
 use Rattle.trees.specs.Order.{compare_entries, is_same}
@@ -24,8 +23,8 @@ differences [] ys = map only_second ys
 differences (e ∷ xs) [] = only_first e ∷ differences xs []
 differences (e ∷ xs) (f ∷ ys) =
     if ltb e.key f.key then only_first e ∷ differences xs (f ∷ ys)
-    else if ltb f.key e.key then only_second f ∷ differences (e ∷ xs) ys
-    else unless_same e f (differences xs ys)
+    else (if ltb f.key e.key then only_second f ∷ differences (e ∷ xs) ys
+    else unless_same e f (differences xs ys))
 
 abbrev pub tag_of : Difference → ℕ
 tag_of (only_first e) = e.key

@@ -1,8 +1,7 @@
 -- Listings: entries by rising key (RULES 2.5), and what a lookup or an edit means over them
 -- (RULES 6.13, 6.14).
-use Rattle.std.specs.Prelude.{ℕ, ◌<◌, Bool, true, false, List, [], ◌∷◌, ltb, eqb}
+use Rattle.std.specs.Prelude.{ℕ, ◌<◌, Bool, true, false, List, [], ◌∷◌, ltb, eqb, if◌then◌else◌}
 use Rattle.std.proofs.Math.Option.{Option, none, some}
-use Rattle.heights.specs.Choice.{if◌then◌else◌}
 use Rattle.trees.specs.Tree.{Entry}
 
 -- Of a list whose elements have numbers: every number is above k; each is below all that follow.
@@ -38,8 +37,8 @@ abbrev pub put : Entry → List Entry → List Entry
 put x [] = x ∷ []
 put x (e ∷ xs) =
     if ltb x.key e.key then x ∷ (e ∷ xs)
-    else if ltb e.key x.key then e ∷ put x xs
-    else x ∷ xs
+    else (if ltb e.key x.key then e ∷ put x xs
+    else x ∷ xs)
 
 -- RULES 6.14: "`remove`: the entry with the key goes; an absent key changes nothing."
 abbrev pub cut : ℕ → List Entry → List Entry

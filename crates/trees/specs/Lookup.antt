@@ -1,8 +1,7 @@
 -- 000's `get`, `first`, `last` (RULES 6.16, 6.17) and the descents of `range` (RULES 7.8), over
 -- plain trees.
-use Rattle.std.specs.Prelude.{ℕ, suc, Bool, true, false, ltb}
+use Rattle.std.specs.Prelude.{ℕ, suc, Bool, true, false, ltb, if◌then◌else◌}
 use Rattle.std.proofs.Math.Option.{Option, none, some}
-use Rattle.heights.specs.Choice.{if◌then◌else◌}
 use Rattle.trees.specs.Tree.{Entry, Tree, leaf, node}
 use Rattle.trees.specs.Listing.{or_else}
 use Rattle.trees.specs.Range.{End, front, back, Range, after_front, before_back}
@@ -13,8 +12,8 @@ unfoldable pub get : ℕ → Tree → Option Entry
 get k leaf = none
 get k (node p c l e r) =
     if ltb k e.key then get k l
-    else if ltb e.key k then get k r
-    else some e
+    else (if ltb e.key k then get k r
+    else some e)
 
 -- Whether the descent of RULES 6.16 ends at an entry: 000's `is_new_key`, the other way round, and
 -- its `removed`.
@@ -22,16 +21,16 @@ unfoldable pub has : ℕ → Tree → Bool
 has k leaf = false
 has k (node p c l e r) =
     if ltb k e.key then has k l
-    else if ltb e.key k then has k r
-    else true
+    else (if ltb e.key k then has k r
+    else true)
 
 -- RULES 6.16: how many nodes it meets, "the search path".
 unfoldable pub path : ℕ → Tree → ℕ
 path k leaf = 0
 path k (node p c l e r) =
     if ltb k e.key then suc (path k l)
-    else if ltb e.key k then suc (path k r)
-    else 1
+    else (if ltb e.key k then suc (path k r)
+    else 1)
 
 -- RULES 6.17: "`first` goes left as long as there is a left child, `last` goes right likewise."
 unfoldable pub first : Tree → Option Entry

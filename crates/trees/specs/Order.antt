@@ -1,6 +1,5 @@
 -- RULES 8.1 to 8.3: the order of two listings.
-use Rattle.std.specs.Prelude.{ℕ, Bool, true, false, List, [], ◌∷◌, ltb}
-use Rattle.heights.specs.Choice.{if◌then◌else◌}
+use Rattle.std.specs.Prelude.{ℕ, Bool, true, false, List, [], ◌∷◌, ltb, if◌then◌else◌}
 use Rattle.trees.specs.Tree.{Entry}
 
 -- RULES 8.1: −1, 0 and 1, "where the first listing is less", "the two are equal", "the first is
@@ -9,7 +8,7 @@ pub data Sign : Type 0 where
   less same more : Sign
 
 abbrev pub compare_numbers : ℕ → ℕ → Sign
-compare_numbers a b = if ltb a b then less else if ltb b a then more else same
+compare_numbers a b = if ltb a b then less else (if ltb b a then more else same)
 
 -- RULES 8.1: the first that differs decides.
 infixr 25 ◌and_then◌

@@ -1,7 +1,6 @@
 -- RULES 7: walks over a range with two ends, as steps over a listing.
-use Rattle.std.specs.Prelude.{ℕ, Bool, true, false, ◌&&◌, List, [], ◌∷◌, ltb, leb}
+use Rattle.std.specs.Prelude.{ℕ, Bool, true, false, ◌&&◌, List, [], ◌∷◌, ltb, leb, if◌then◌else◌}
 use Rattle.std.proofs.Math.Option.{Option, none, some}
-use Rattle.heights.specs.Choice.{if◌then◌else◌}
 use Rattle.trees.specs.Tree.{Entry}
 use Rattle.trees.specs.Listing.{first_of, last_of}
 

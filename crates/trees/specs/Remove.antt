@@ -1,7 +1,6 @@
 -- 000's `remove_fuse`, `remove_balance`, `remove_balance_left`, `remove_balance_right` and
 -- `remove`, step by step, over plain trees: RULES 6.27 to 6.33, 6.38.
-use Rattle.std.specs.Prelude.{ℕ, ◌&&◌, ltb}
-use Rattle.heights.specs.Choice.{if◌then◌else◌}
+use Rattle.std.specs.Prelude.{ℕ, ◌&&◌, ltb, if◌then◌else◌}
 use Rattle.trees.specs.Tree.{Entry, Color, red, black, fresh, Tree, leaf, node, lf, rt, en, is_red, is_black, paint, copy}
 use Rattle.trees.specs.Lookup.{has}
 use Rattle.trees.specs.Insert.{balance}
@@ -25,9 +24,9 @@ turn_left l e r =
 unfoldable pub remove_balance_left : Tree → Entry → Tree → Tree
 remove_balance_left l e r =
     if is_red l then node fresh red (paint black l) e r
-    else if is_black r then remove_balance (node fresh black l e (paint red r))
-    else if is_red r && is_black (lf r) then turn_left l e r
-    else node fresh red l e r
+    else (if is_black r then remove_balance (node fresh black l e (paint red r))
+    else (if is_red r && is_black (lf r) then turn_left l e r
+    else node fresh red l e r))
 
 -- RULES 6.31, its third case: "l is R(a, v, B(b, w, c)): R(s, w, B(c, x, r)), where s is
 -- `remove_balance` of B(a painted red, v, b)".
@@ -40,9 +39,9 @@ turn_right l e r =
 unfoldable pub remove_balance_right : Tree → Entry → Tree → Tree
 remove_balance_right l e r =
     if is_red r then node fresh red l e (paint black r)
-    else if is_black l then remove_balance (node fresh black (paint red l) e r)
-    else if is_red l && is_black (rt l) then turn_right l e r
-    else node fresh red l e r
+    else (if is_black l then remove_balance (node fresh black (paint red l) e r)
+    else (if is_red l && is_black (rt l) then turn_right l e r
+    else node fresh red l e r))
 
 -- RULES 6.32, "both of one colour" c, f being what their inner children fuse to: a red f comes
 -- between them, any other below.
@@ -81,8 +80,8 @@ unfoldable pub del : ℕ → Tree → Tree
 del k leaf = leaf
 del k (node p c l e r) =
     if ltb k e.key then del_left l (del k l) e r
-    else if ltb e.key k then del_right l e r (del k r)
-    else fuse l r
+    else (if ltb e.key k then del_right l e r (del k r)
+    else fuse l r)
 
 -- RULES 6.28, 6.38: `remove` on the map. "In the end the root is black"; for an absent key it
 -- "reshapes nothing".

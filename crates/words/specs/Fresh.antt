@@ -1,6 +1,5 @@
 -- Which nodes of a tree in the arena a call has made.
-use Rattle.std.specs.Prelude.{Bool, List, ℕ, eqb}
-use Rattle.heights.specs.Choice.{if◌then◌else◌}
+use Rattle.std.specs.Prelude.{Bool, List, ℕ, eqb, if◌then◌else◌}
 use Rattle.trees.specs.Tree.{Place, kept, fresh, Tree, leaf, node}
 use Rattle.words.specs.Layout.{count}
 

@@ -1,6 +1,5 @@
 -- A pure model of each write to the arena: the words after it, as a function of the words before.
-use Rattle.std.specs.Prelude.{List, [], ◌∷◌, ℕ, zero, suc, ◌+◌, ◌-◌, ◌*◌, ltb, set}
-use Rattle.heights.specs.Choice.{if◌then◌else◌}
+use Rattle.std.specs.Prelude.{List, [], ◌∷◌, ℕ, zero, suc, ◌+◌, ◌-◌, ◌*◌, ltb, set, if◌then◌else◌}
 use Rattle.trees.specs.Tree.{Entry, Color}
 use Rattle.words.specs.Layout.{head, left, right, count, code, node_words, slot_words, head_word, key_word, left_word, count_word, root_word, not_held}
 

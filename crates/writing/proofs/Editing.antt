@@ -7,7 +7,7 @@ use native.Mathlib.Omega.{arith}
 use lib.ListN.{replicate}
 use mir.Syntax.{w32}
 use mir.Val.{Fits}
-use Rattle.heights.specs.Choice.{if◌then◌else◌}
+use Rattle.std.specs.Prelude.{if◌then◌else◌}
 use Rattle.heights.specs.Height.{H, insert_reserve, remove_reserve}
 use Rattle.heights.proofs.Logs.{H-below}
 use Rattle.trees.specs.Tree.{Entry, Tree, size, height, made}

@@ -2,8 +2,7 @@
 // the arena first. Each takes the free number and gives it back.
 #![tactic(auto)]
 
-ghost use Rattle.std.specs.Prelude.{◌≡◌, ◌+◌, ◌<◌};
-ghost use Rattle.heights.specs.Choice.{if◌then◌else◌};
+ghost use Rattle.std.specs.Prelude.{◌≡◌, ◌+◌, ◌<◌, if◌then◌else◌};
 ghost use Rattle.heights.specs.Height.{insert_reserve, remove_reserve};
 ghost use Rattle.trees.specs.Edit.{setting, cutting};
 ghost use Rattle.words.specs.Sound.{Sound};
