@@ -208,7 +208,8 @@ fn ended(p: Place) -> Place
 
 // Reads once, takes what came and writes the answers to it.
 fn read_some(
-    rt: &(impl Input + Print + Eprint),
+    rt: &(impl Print + Eprint),
+    reader: &mut impl Read,
     ws: &mut [u32],
     line: &mut [u8],
     out: &mut [u8],
@@ -218,7 +219,7 @@ fn read_some(
     ensures { Ready line.new out.new result }
 {
     let mut input = [0u8; IN_ROOM];
-    match rt.reader().read(&mut input) {
+    match reader.read(&mut input) {
         Ok(0) => ended(p),
         Ok(n) => {
             let next = take_all(rt, ws, line, out, p, &input[..n]);
@@ -234,7 +235,8 @@ fn read_some(
 // Reads to the input's end. A proved loop has to end, and nothing says that an input does: so the loop counts its turns down, from a
 // number that no run uses up.
 fn read_all(
-    rt: &(impl Input + Print + Eprint),
+    rt: &(impl Print + Eprint),
+    reader: &mut impl Read,
     ws: &mut [u32],
     line: &mut [u8],
     out: &mut [u8],
@@ -246,7 +248,7 @@ fn read_all(
     let mut next = p;
     let mut turns = u64::MAX;
     while turns > 0 {
-        next = read_some(rt, ws, line, out, next);
+        next = read_some(rt, reader, ws, line, out, next);
         if next.ended {
             return next;
         }
@@ -259,7 +261,13 @@ fn read_all(
 }
 
 // A last line without a line end counts.
-fn serve(rt: &(impl Input + Print + Eprint), ws: &mut [u32], line: &mut [u8], out: &mut [u8])
+fn serve(
+    rt: &(impl Print + Eprint),
+    reader: &mut impl Read,
+    ws: &mut [u32],
+    line: &mut [u8],
+    out: &mut [u8],
+)
     requires { longest ≤ length out.old }
 {
     let start = Place {
@@ -268,7 +276,7 @@ fn serve(rt: &(impl Input + Print + Eprint), ws: &mut [u32], line: &mut [u8], ou
         ended: false,
         failed: false,
     };
-    let last = read_all(rt, ws, line, out, start);
+    let last = read_all(rt, reader, ws, line, out, start);
     if 0 < last.kept {
         let next = end_line(rt, ws, line, out, last);
         flush(rt, out, next);
@@ -280,5 +288,5 @@ fn main(rt: HostRuntime) {
     let mut line = [0u8; LINE_ROOM];
     let mut out = [0u8; OUT_ROOM];
     format(&mut ws, MAX_NODES, MAX_SLOTS);
-    serve(&rt, &mut ws, &mut line, &mut out);
+    serve(&rt, &mut rt.stdin(), &mut ws, &mut line, &mut out);
 }

@@ -170,10 +170,9 @@ fn report(rt: &impl Print, t: Tally) {
 }
 
 // Reads until the buffer is full, the input ends or a read fails, and says how many bytes came.
-fn read_full(rt: &impl Input, text: &mut [u8]) -> usize
+fn read_full(input: &mut impl Read, text: &mut [u8]) -> usize
     ensures { result ≤ length text.new }
 {
-    let mut input = rt.reader();
     let mut done = 0usize;
     while done < text.len() {
         match input.read(&mut text[done..]) {
@@ -187,6 +186,6 @@ fn read_full(rt: &impl Input, text: &mut [u8]) -> usize
 
 fn main(rt: HostRuntime) {
     let mut text = [0u8; BYTES];
-    let n = read_full(&rt, &mut text);
+    let n = read_full(&mut rt.stdin(), &mut text);
     report(&rt, replay(&text[..n]));
 }
