@@ -9,7 +9,6 @@ use Rattle.words.specs.Layout.{nodes, slots, slot_root, not_held}
 use Rattle.words.specs.Counting.{same, occ, sum}
 use Rattle.words.specs.Reads.{Held}
 use Rattle.words.specs.Sound.{Reached, from_slot, Sound}
-use Rattle.words.specs.Owned.{held}
 use Rattle.words.proofs.Counts.{same_eq, same_ne}
 use Rattle.words.proofs.Holding.{reads_link}
 use Rattle.words.proofs.SoundOwned.{sound_owned}

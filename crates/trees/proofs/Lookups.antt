@@ -1,5 +1,5 @@
 -- The descents find what the listing holds: `get` is `find`, `has` whether there is one, `first` and `last` are the ends.
-use Prim.Native.Nat.{ℕ, suc, ◌+◌, ◌≤◌, max}
+use Prim.Native.Nat.{ℕ, suc, ◌≤◌, max}
 use mathlib.Core.Path.{◌≡◌, refl, sym, ap, ◌∙◌}
 use mathlib.Core.Bool.{Bool}
 use mathlib.Core.List.{List, [], ◌∷◌, ◌++◌}

@@ -1,5 +1,4 @@
-use borrow.Author.Rules.{rules}
-use Rattle.abreast.proofs.Diving.{Reaches, reaches_start, reaches_on, room, room_falls, meets}
+use Rattle.abreast.proofs.Diving.{reaches_start, reaches_on, room_falls, meets}
 use Rattle.abreast.proofs.dive.Goals as goal
 
 pub loop-i-init : goal.loop-i-init

@@ -1,5 +1,4 @@
-use borrow.Author.Rules.{rules}
-use Rattle.abreast.proofs.Diving.{Reaches, reaches_start, reaches_on, room, room_falls, meets}
+use Rattle.abreast.proofs.Diving.{Reaches, room}
 use Rattle.abreast.proofs.dive.Given as goal
 
 abbrev pub invariant-loop-i : goal.invariant-loop-i

@@ -1,4 +1,3 @@
-use borrow.Author.Rules.{rules}
 use Rattle.abreast.proofs.Tops.{head_none, topped, top_inside, head_top}
 use Rattle.abreast.proofs.head.Goals as goal
 

@@ -1,4 +1,3 @@
-use borrow.Author.Rules.{rules}
 use Rattle.abreast.proofs.Tops.{top_inside, popped}
 use Rattle.abreast.proofs.pop.Goals as goal
 

@@ -1,5 +1,4 @@
 use Rattle.abreast.proofs.Stacks.{sinks_nowhere, node_inside, sinks_left}
-use borrow.Author.Rules.{rules}
 use Rattle.abreast.proofs.sink.Goals as goal
 
 pub returns-then-i-eq0 : goal.returns-then-i-eq0

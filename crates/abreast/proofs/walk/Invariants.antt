@@ -1,8 +1,6 @@
-use borrow.Author.Rules.{rules}
-use borrow.Author.Tests.{not-true, not-false}
 use lib.ListN.{length}
 use Rattle.abreast.specs.Sides.{ahead}
-use Rattle.abreast.proofs.Parting.{Passes, passes_start, passes_end, both-topped, passes_more, passes_falls}
+use Rattle.abreast.proofs.Parting.{Passes}
 use Rattle.abreast.proofs.walk.Given as goal
 
 abbrev pub invariant-loop-d : goal.invariant-loop-d

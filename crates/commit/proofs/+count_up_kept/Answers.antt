@@ -1,6 +1,4 @@
-use borrow.Author.Rules.{rules}
 use Rattle.commit.proofs.Lifted.{raises_low, raises_up, raises_inside, raises_high, raises_lower, raises_left, raises_right, raises_here}
-use Prim.Native.Nat.{ℕ, ◌<◌}
 use Rattle.commit.proofs.+count_up_kept.Goals as goal
 
 pub count_up-requires : goal.count_up-requires

@@ -1,4 +1,4 @@
-use Rattle.heights.proofs.Logs.{few_zeros, zeros_lg}
+use Rattle.heights.proofs.Logs.{zeros_lg}
 use Rattle.heights.proofs.lg_floor.Goals as goal
 
 pub returns : goal.returns

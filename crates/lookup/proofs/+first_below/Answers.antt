@@ -1,6 +1,4 @@
-use borrow.Author.Rules.{rules}
 use Rattle.lookup.proofs.Descents.{rooted_inside, rooted_high, lower, rooted-sides, first_none, first_left}
-use Prim.Native.Nat.{ℕ, ◌<◌}
 use Rattle.lookup.proofs.+first_below.Goals as goal
 
 pub returns-then-i-eq0 : goal.returns-then-i-eq0

@@ -1,8 +1,5 @@
-use borrow.Author.Rules.{rules}
-use Rattle.trees.specs.Lookup.{get}
-use Rattle.lookup.specs.declared.Found.TheVariants.{Nothing}
 use Rattle.lookup.proofs.Descents.{rooted_inside, rooted_high, lower}
-use Rattle.lookup.proofs.Leading.{Leads, leads_start, get_end, get_found, get_childless, get_side}
+use Rattle.lookup.proofs.Leading.{leads_start, get_end, get_found, get_childless, get_side}
 use Rattle.lookup.proofs.get.Goals as goal
 
 pub loop-at-init : goal.loop-at-init

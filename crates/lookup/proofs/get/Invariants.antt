@@ -1,8 +1,6 @@
-use borrow.Author.Rules.{rules}
 use Rattle.trees.specs.Lookup.{get}
 use Rattle.lookup.specs.declared.Found.TheVariants.{Nothing}
-use Rattle.lookup.proofs.Descents.{rooted_inside, rooted_high, lower}
-use Rattle.lookup.proofs.Leading.{Leads, leads_start, get_end, get_found, get_childless, get_side}
+use Rattle.lookup.proofs.Leading.{Leads}
 use Rattle.lookup.proofs.get.Given as goal
 
 abbrev pub invariant-loop-at : goal.invariant-loop-at

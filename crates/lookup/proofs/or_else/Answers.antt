@@ -1,4 +1,3 @@
-use borrow.Author.Rules.{rules}
 use Rattle.lookup.proofs.Chosen.{or_some, or_none}
 use Rattle.lookup.proofs.or_else.Goals as goal
 

@@ -1,6 +1,5 @@
 use borrow.Author.Rules.{rules}
 use Rattle.nodes.proofs.Released.{lower, holds_inside, holds_high, holds_left, holds_right, released_none, released_more, released_last, links_fit, sum_fits}
-use Prim.Native.Nat.{ℕ, ◌<◌}
 use Rattle.nodes.proofs.+release.Goals as goal
 
 pub returns-then-i-eq0 : goal.returns-then-i-eq0

@@ -1,4 +1,3 @@
-use borrow.Author.Rules.{rules}
 use native.Mathlib.Omega.{arith}
 use Rattle.words.specs.Layout.{count}
 use Rattle.nodes.proofs.Raised.{raised_none, raised_node}

@@ -1,4 +1,3 @@
-use borrow.Author.Rules.{rules}
 use Rattle.plan.proofs.Looking.{look_none, plan_inside, look_arena, look_plan}
 use Rattle.plan.proofs.look.Goals as goal
 

@@ -1,5 +1,3 @@
-use borrow.Author.Rules.{rules}
-use borrow.Author.Tests.{not-true, not-false}
 use Rattle.ranges.proofs.Limits.{after_no, after_yes}
 use Rattle.ranges.proofs.after_front.Goals as goal
 

@@ -1,5 +1,3 @@
-use borrow.Author.Rules.{rules}
-use borrow.Author.Tests.{not-true, not-false}
 use Rattle.ranges.proofs.Limits.{before_no, before_yes}
 use Rattle.ranges.proofs.before_back.Goals as goal
 

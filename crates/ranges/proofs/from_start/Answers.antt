@@ -1,4 +1,3 @@
-use borrow.Author.Rules.{rules}
 use Rattle.ranges.proofs.Limits.{start_included, start_excluded}
 use Rattle.ranges.proofs.from_start.Goals as goal
 

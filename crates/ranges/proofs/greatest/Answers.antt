@@ -1,9 +1,5 @@
-use borrow.Author.Rules.{rules}
-use Rattle.trees.specs.Range.{before_back}
-use Rattle.trees.specs.Lookup.{greatest}
 use Rattle.lookup.proofs.Descents.{rooted_inside, rooted_high, lower}
-use Rattle.lookup.proofs.Leading.{Leads, leads_start}
-use Rattle.ranges.specs.Ranges.{range_of}
+use Rattle.lookup.proofs.Leading.{leads_start}
 use Rattle.ranges.proofs.Digging.{greatest_end, greatest_right, greatest_left}
 use Rattle.ranges.proofs.greatest.Goals as goal
 use Rattle.ranges.proofs.greatest.Goals.{then-before_back, else-before_back}

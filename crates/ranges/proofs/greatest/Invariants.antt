@@ -1,10 +1,7 @@
-use borrow.Author.Rules.{rules}
 use Rattle.trees.specs.Range.{before_back}
 use Rattle.trees.specs.Lookup.{greatest}
-use Rattle.lookup.proofs.Descents.{rooted_inside, rooted_high, lower}
-use Rattle.lookup.proofs.Leading.{Leads, leads_start}
+use Rattle.lookup.proofs.Leading.{Leads}
 use Rattle.ranges.specs.Ranges.{range_of}
-use Rattle.ranges.proofs.Digging.{greatest_end, greatest_right, greatest_left}
 use Rattle.ranges.proofs.greatest.Given as goal
 
 abbrev pub invariant-loop-at : goal.invariant-loop-at

@@ -1,9 +1,5 @@
-use borrow.Author.Rules.{rules}
-use Rattle.trees.specs.Range.{after_front}
-use Rattle.trees.specs.Lookup.{least}
 use Rattle.lookup.proofs.Descents.{rooted_inside, rooted_high, lower}
-use Rattle.lookup.proofs.Leading.{Leads, leads_start}
-use Rattle.ranges.specs.Ranges.{range_of}
+use Rattle.lookup.proofs.Leading.{leads_start}
 use Rattle.ranges.proofs.Digging.{least_end, least_left, least_right}
 use Rattle.ranges.proofs.least.Goals as goal
 use Rattle.ranges.proofs.least.Goals.{then-after_front, else-after_front}

@@ -1,10 +1,7 @@
-use borrow.Author.Rules.{rules}
 use Rattle.trees.specs.Range.{after_front}
 use Rattle.trees.specs.Lookup.{least}
-use Rattle.lookup.proofs.Descents.{rooted_inside, rooted_high, lower}
-use Rattle.lookup.proofs.Leading.{Leads, leads_start}
+use Rattle.lookup.proofs.Leading.{Leads}
 use Rattle.ranges.specs.Ranges.{range_of}
-use Rattle.ranges.proofs.Digging.{least_end, least_left, least_right}
 use Rattle.ranges.proofs.least.Given as goal
 
 abbrev pub invariant-loop-at : goal.invariant-loop-at

@@ -1,4 +1,3 @@
-use borrow.Author.Rules.{rules}
 use Rattle.ranges.proofs.Limits.{past_given}
 use Rattle.ranges.proofs.past_last.Goals as goal
 

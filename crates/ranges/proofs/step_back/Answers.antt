@@ -1,4 +1,3 @@
-use borrow.Author.Rules.{rules}
 use Rattle.ranges.proofs.Limits.{back_none, back_yes, back_no}
 use Rattle.ranges.proofs.step_back.Goals as goal
 

@@ -1,4 +1,3 @@
-use borrow.Author.Rules.{rules}
 use Rattle.ranges.proofs.Limits.{front_none, front_yes, front_no}
 use Rattle.ranges.proofs.step_front.Goals as goal
 

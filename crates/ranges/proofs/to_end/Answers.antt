@@ -1,4 +1,3 @@
-use borrow.Author.Rules.{rules}
 use Rattle.ranges.proofs.Limits.{end_included, end_excluded}
 use Rattle.ranges.proofs.to_end.Goals as goal
 

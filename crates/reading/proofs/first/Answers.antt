@@ -1,4 +1,3 @@
-use borrow.Author.Rules.{rules}
 use Rattle.answers.proofs.Entries.{rooted}
 use Rattle.reading.proofs.Answering.{first_refused, first_absent, first_entry}
 use Rattle.reading.proofs.first.Goals as goal

@@ -1,4 +1,3 @@
-use borrow.Author.Rules.{rules}
 use Rattle.answers.proofs.Entries.{rooted}
 use Rattle.reading.proofs.Answering.{get_refused, get_absent, get_value}
 use Rattle.reading.proofs.get.Goals as goal

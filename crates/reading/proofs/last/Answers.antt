@@ -1,4 +1,3 @@
-use borrow.Author.Rules.{rules}
 use Rattle.answers.proofs.Entries.{rooted}
 use Rattle.reading.proofs.Answering.{last_refused, last_absent, last_entry}
 use Rattle.reading.proofs.last.Goals as goal

@@ -1,4 +1,3 @@
-use borrow.Author.Rules.{rules}
 use Rattle.answers.proofs.Entries.{rooted}
 use Rattle.reading.proofs.Answering.{mark_refused, mark_no, mark_yes}
 use Rattle.reading.proofs.rescale_mark.Goals as goal

@@ -1,4 +1,3 @@
-use borrow.Author.Rules.{rules}
 use Rattle.answers.proofs.Entries.{header_inside, held_inside}
 use Rattle.reading.proofs.Answering.{size_refused, size_told}
 use Rattle.reading.proofs.size.Goals as goal

@@ -1,4 +1,3 @@
-use borrow.Author.Rules.{rules}
 use Rattle.walking.proofs.BadRanges.{from_above, from_excluded, after_above, after_excluded}
 use Rattle.walking.proofs.bad_range.Goals as goal
 

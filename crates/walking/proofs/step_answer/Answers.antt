@@ -1,4 +1,3 @@
-use borrow.Author.Rules.{rules}
 use Rattle.walking.proofs.Steps.{step-entry, step_end}
 use Rattle.walking.proofs.step_answer.Goals as goal
 

@@ -1,4 +1,3 @@
-use borrow.Author.Rules.{rules}
 use Rattle.answers.proofs.Entries.{rooted}
 use Rattle.walking.proofs.Steps.{step_bad, step_refused, step_told}
 use Rattle.walking.proofs.step_front.Goals as goal
