@@ -49,6 +49,7 @@ fn test_on(ws: &[u32], memo: &mut [u32], ends: &mut [u32], queue: &mut [u32]) ->
 }
 
 // Tests an arena of fewer than SMALL nodes.
+#[inline(never)]
 fn test_small(ws: &[u32]) -> Tested
     requires { Within ws.now × (nodes ws.now < small_links) }
     ensures { Verdict ws.now result }
@@ -60,6 +61,7 @@ fn test_small(ws: &[u32]) -> Tested
 }
 
 // Tests an arena of fewer than MIDDLE nodes.
+#[inline(never)]
 fn test_middle(ws: &[u32]) -> Tested
     requires { Within ws.now × (nodes ws.now < middle_links) }
     ensures { Verdict ws.now result }
@@ -71,6 +73,7 @@ fn test_middle(ws: &[u32]) -> Tested
 }
 
 // Tests an arena of fewer than LARGE nodes.
+#[inline(never)]
 fn test_large(ws: &[u32]) -> Tested
     requires { Within ws.now × (nodes ws.now < large_links) }
     ensures { Verdict ws.now result }
@@ -81,9 +84,8 @@ fn test_large(ws: &[u32]) -> Tested
     test_on(ws, &mut memo, &mut ends, &mut queue)
 }
 
-// Tests an arena on the least scratch that is large enough, from this size on. Into a function that
-// calls itself the compiler inlines no large frame, so a small arena never pays for a large one's
-// scratch.
+// Tests an arena on the least scratch that is large enough, from this size on. The functions with
+// scratch are not inlined, so a small arena never pays for a large one's.
 fn test_from(ws: &[u32], size: u32) -> Tested
     requires { Within ws.now }
     ensures { Verdict ws.now result }
