@@ -2,7 +2,7 @@
 """Brings the repository's own names to the spelling of today's Rattle, after port.py and once.
 
 Functions, lemmas, constructors and fields are in snake case. A dash stays in the name of a lemma of
-proofs/ where it joins the names of two definitions of specs/ (`listing-insert`) or a type to one;
+proofs/ where it joins the names of two definitions of specs/ (`listing-edit`) or a type to one;
 elsewhere it becomes an underscore. Names of Rust code, types and modules stay as they are.
 The edits of must-fail/ are respelled with the sources that they name: names, paths, operators,
 projections and the brackets of clauses.
@@ -20,6 +20,7 @@ WORD = r"[A-Za-z0-9_'≢≡μκ₀-₉Δ]"
 TOKEN = re.compile(rf"{WORD}+(?:-{WORD}+)*")
 MODIFIERS = r"(?:(?:abbrev|unfoldable|pub|private|infixr \d+|infixl \d+)\s+)*"
 DECLARED = re.compile(rf"^(\s*){MODIFIERS}((?:[a-z◌][^\s:(){{}},;=]*\s+)+):\s")
+RULES = re.compile(r"^(?:pub )?ruleset (\S+) =")
 CONTRACTS = re.compile(r"(Rattle\.\w+\.specs)\.Contracts(?![\w'-])")
 # Names that fall together with another once respelled, or with a word of the library that the same
 # file brings in: NEW stands for OLD in place of what the rules would give.
@@ -35,6 +36,13 @@ CHOSEN = {
     "turned_right": "turns_right",
     "or-else": "past_or",
     "free-number": "free_number_is",
+    "free-nodes-outcome": "free_nodes_outcome",
+    "fuse-left-none": "fuse_left_none",
+    "fuse-right-none": "fuse_right_none",
+    "rb-balance-left": "rb_balance_left",
+    "rb-balance-right": "rb_balance_right",
+    "rb-remove-balance-left": "rb_remove_balance_left",
+    "rb-remove-balance-right": "rb_remove_balance_right",
 }
 # Two spellings of one name, of which port.py had turned one.
 TOGETHER = {"and_then"}
@@ -50,7 +58,10 @@ def texts(*patterns):
 def declared(path):
     with open(path, encoding="utf-8") as f:
         for line in f:
-            if not line.lstrip().startswith("--"):
+            m = RULES.match(line)
+            if m:
+                yield m.group(1), True
+            elif not line.lstrip().startswith("--"):
                 m = DECLARED.match(line)
                 if m:
                     for name in m.group(2).split():

@@ -86,4 +86,4 @@ module _ {ws : List ℕ} {i j : ℕ} {a : List ℕ} {p : ℕ} {b : List ℕ} {q 
             }
 
 -- Either stack has a top; which one has to go, the listings show.
-pub ruleset both-topped = (one_topped, other_topped)
+pub ruleset both_topped = (one_topped, other_topped)

@@ -46,7 +46,7 @@ module _ {ws : List ℕ} {s : ℕ} where
       record { entering = (record { inside = omega arith; held = λ h. f (z ∙ h) }, z) }
 
 -- Testing for more than V would refuse rightly too; that it lets V through, the read of the slot shows.
-pub ruleset enter-outside = (enter_beyond, enter_above)
+pub ruleset enter_outside = (enter_beyond, enter_above)
 
 module _ {ws : List ℕ} {s : ℕ} {x : Entered} (S : Sound ws) (g : Enters ws s x) where
   pub root_of : {i : ℕ} → x ≡ Entered.Root i → Held ws s × (i ≡ slot_root (nodes ws) ws s)

@@ -44,7 +44,7 @@ module _ {ws : List ℕ} {i h : ℕ} (k : Rooted ws i h) (some_node : i ≡ 0 �
   rooted_right d = rw d.right_is (sides k.tree k.reads k.low).1
 
 -- Either side can be descended into; which one it has to be, the answer shows.
-pub ruleset rooted-sides = (rooted_left, rooted_right)
+pub ruleset rooted_sides = (rooted_left, rooted_right)
 
 -- At none, and at a node with its two sides.
 pub at_none : {ws : List ℕ} {i : ℕ} (r : Found) (f : Tree → Option Entry) → i ≡ 0 → found_of r ≡ f leaf → Finds ws i r f

@@ -11,7 +11,8 @@ use Rattle.words.specs.Reads.{Reads}
 use Rattle.words.specs.Model.{with_count, freeing, releasing, freed}
 use Rattle.words.proofs.Counts.{occ-first}
 use Rattle.words.proofs.Recounting.{owned_long, idles_few}
-use Rattle.words.proofs.Releasing.{releasing_none, freed_none, releasing_more, freed_more, releasing_last, freed_last, released_free, in_turn, kept_pending, releasing_released}
+use Rattle.words.proofs.ReleasingCases.{releasing_none, freed_none, releasing_more, freed_more, releasing_last, freed_last}
+use Rattle.words.proofs.Releasing.{released_free, in_turn, kept_pending, releasing_released}
 use Rattle.arena.specs.Nodes.{NodeInside}
 use Rattle.nodes.specs.Promises.{Any, Holds, Releases}
 

@@ -110,13 +110,13 @@ pub near_not_red : {n : ℕ} {t : Tree} → is_red t ≡ false → Near n t → 
 near_not_red h (red_root a b) = absurd (true≢false h)
 near_not_red h (well a) = a
 
-rb_remove_balance-left : {n : ℕ} {p : Place} {l r u : Tree} {e : Entry} → RemoveBalance (node p black l e r) u → Near n l → Rb n r → Rb (suc n) u
-rb_remove_balance-left RemoveBalance.both a b = rb_risen (near_parts a) (parts b)
-rb_remove_balance-left (RemoveBalance.plain g) a b = rb_balance_left g a b
+rb_remove_balance_left : {n : ℕ} {p : Place} {l r u : Tree} {e : Entry} → RemoveBalance (node p black l e r) u → Near n l → Rb n r → Rb (suc n) u
+rb_remove_balance_left RemoveBalance.both a b = rb_risen (near_parts a) (parts b)
+rb_remove_balance_left (RemoveBalance.plain g) a b = rb_balance_left g a b
 
-rb_remove_balance-right : {n : ℕ} {p : Place} {l r u : Tree} {e : Entry} → RemoveBalance (node p black l e r) u → Rb n l → Near n r → Rb (suc n) u
-rb_remove_balance-right RemoveBalance.both a b = rb_risen (parts a) (near_parts b)
-rb_remove_balance-right (RemoveBalance.plain g) a b = rb_balance_right g a b
+rb_remove_balance_right : {n : ℕ} {p : Place} {l r u : Tree} {e : Entry} → RemoveBalance (node p black l e r) u → Rb n l → Near n r → Rb (suc n) u
+rb_remove_balance_right RemoveBalance.both a b = rb_risen (parts a) (near_parts b)
+rb_remove_balance_right (RemoveBalance.plain g) a b = rb_balance_right g a b
 
 painted_red : {n : ℕ} {t : Tree} → is_red t ≡ false → Rb (suc n) t → Near n (paint red t)
 painted_red h (rb_red i j a b) = absurd (true≢false h)
@@ -140,19 +140,19 @@ never_right h i (rb_black a b) = true≢false h
 pub rb_Left : {n : ℕ} {l r u : Tree} {e : Entry} → Left l e r u → Near n l → Rb (suc n) r → Near (suc n) u × (is_red r ≡ false → Rb (suc n) u)
 rb_Left Left.red_left a c = let f = near_parts a in let b = rb_black f.0 f.1 in (red_root b c, λ j. rb_red refl j b c)
 rb_Left (Left.black_right h g) a c =
-    let f = parts c in let d = rb_remove_balance-right g (near_not_red h a) (red_root f.0 f.1) in (well d, λ _. d)
+    let f = parts c in let d = rb_remove_balance_right g (near_not_red h a) (red_root f.0 f.1) in (well d, λ _. d)
 rb_Left (Left.red_right h g) a c =
     let f = parts c in let b = parts f.0 in
-    (red_root (rb_black (near_not_red h a) b.0) (rb_remove_balance-right g b.1 (painted_red (not_red c).1 f.1)), λ k. absurd (true≢false k))
+    (red_root (rb_black (near_not_red h a) b.0) (rb_remove_balance_right g b.1 (painted_red (not_red c).1 f.1)), λ k. absurd (true≢false k))
 rb_Left (Left.stuck h i) a c = absurd (never_left h i c)
 
 pub rb_Right : {n : ℕ} {l r u : Tree} {e : Entry} → Right l e r u → Rb (suc n) l → Near n r → Near (suc n) u × (is_red l ≡ false → Rb (suc n) u)
 rb_Right Right.red_right c a = let f = near_parts a in let b = rb_black f.0 f.1 in (red_root c b, λ j. rb_red j refl c b)
 rb_Right (Right.black_left h g) c a =
-    let f = parts c in let d = rb_remove_balance-left g (red_root f.0 f.1) (near_not_red h a) in (well d, λ _. d)
+    let f = parts c in let d = rb_remove_balance_left g (red_root f.0 f.1) (near_not_red h a) in (well d, λ _. d)
 rb_Right (Right.red_left h g) c a =
     let f = parts c in let b = parts f.1 in
-    (red_root (rb_remove_balance-left g (painted_red (not_red c).0 f.0) b.0) (rb_black b.1 (near_not_red h a)), λ k. absurd (true≢false k))
+    (red_root (rb_remove_balance_left g (painted_red (not_red c).0 f.0) b.0) (rb_black b.1 (near_not_red h a)), λ k. absurd (true≢false k))
 rb_Right (Right.stuck h i) c a = absurd (never_right h i c)
 
 rb_copy : {n : ℕ} {t : Tree} → Rb n t → Rb n (copy t)

@@ -36,20 +36,20 @@ module _ (P : Tree → Type 0) where
   parts_Balance (Balance.rr h i) a = (tt, (tt, a.1, a.2.1), (tt, a.2.2.1, a.2.2.2))
   parts_Balance (Balance.calm h) a = a
 
-  parts_Remove_balance : {t u : Tree} → RemoveBalance t u → AllParts P t → AllParts P u
-  parts_Remove_balance RemoveBalance.both a = (tt, (tt, a.1.1, a.1.2), (tt, a.2.1, a.2.2))
-  parts_Remove_balance (RemoveBalance.plain g) a = parts_Balance g a
+  parts_RemoveBalance : {t u : Tree} → RemoveBalance t u → AllParts P t → AllParts P u
+  parts_RemoveBalance RemoveBalance.both a = (tt, (tt, a.1.1, a.1.2), (tt, a.2.1, a.2.2))
+  parts_RemoveBalance (RemoveBalance.plain g) a = parts_Balance g a
 
   parts_Left : {l r u : Tree} {e : Entry} → Left l e r u → AllParts P l → AllParts P r → AllParts P u
   parts_Left Left.red_left a b = (tt, (tt, a.1, a.2), b)
-  parts_Left (Left.black_right h g) a b = parts_Remove_balance g (tt, a, (tt, b.1, b.2))
-  parts_Left (Left.red_right {d = d} h g) a b = (tt, (tt, a, b.1.1), parts_Remove_balance g (tt, b.1.2, parts_paint red d b.2))
+  parts_Left (Left.black_right h g) a b = parts_RemoveBalance g (tt, a, (tt, b.1, b.2))
+  parts_Left (Left.red_right {d = d} h g) a b = (tt, (tt, a, b.1.1), parts_RemoveBalance g (tt, b.1.2, parts_paint red d b.2))
   parts_Left (Left.stuck h i) a b = (tt, a, b)
 
   parts_Right : {l r u : Tree} {e : Entry} → Right l e r u → AllParts P l → AllParts P r → AllParts P u
   parts_Right Right.red_right a b = (tt, a, (tt, b.1, b.2))
-  parts_Right (Right.black_left h g) a b = parts_Remove_balance g (tt, (tt, a.1, a.2), b)
-  parts_Right (Right.red_left {d = d} h g) a b = (tt, parts_Remove_balance g (tt, parts_paint red d a.1, a.2.1), (tt, a.2.2, b))
+  parts_Right (Right.black_left h g) a b = parts_RemoveBalance g (tt, (tt, a.1, a.2), b)
+  parts_Right (Right.red_left {d = d} h g) a b = (tt, parts_RemoveBalance g (tt, parts_paint red d a.1, a.2.1), (tt, a.2.2, b))
   parts_Right (Right.stuck h i) a b = (tt, a, b)
 
   parts_Fuse : {l r u : Tree} → Fuse l r u → AllParts P l → AllParts P r → AllParts P u

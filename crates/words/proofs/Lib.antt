@@ -6,6 +6,7 @@ pub mod Changes
 pub mod Recounting
 pub mod Freeing
 pub mod Making
+pub mod ReleasingCases
 pub mod Releasing
 pub mod Slotting
 pub mod OwnedSound

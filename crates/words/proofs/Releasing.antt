@@ -6,7 +6,6 @@ use Prim.Native.Nat.{ℕ, zero, suc, ◌+◌, ◌-◌, ◌*◌, ◌≤◌, ◌<�
 use native.Mathlib.Omega.{arith}
 use native.Mathlib.Decide.{ℕ_discrete, dec_lt}
 use lib.ListN.{length}
-use borrow.Author.Tests.{lt-ltb, le-ltb}
 use Rattle.trees.specs.Tree.{Tree, Place, Color, Entry, leaf, node, height}
 use Rattle.words.specs.Layout.{left, right, count, node_words, header_words}
 use Rattle.words.specs.Counting.{occ}
@@ -19,6 +18,7 @@ use Rattle.words.proofs.OwnedLaws.{idle_pos, idle_zero, live_left, live_right, l
 use Rattle.words.proofs.Changes.{Outside, outside_refl, outside_trans, Only, only_outside, only_agree, only_count, count_only, count_words, Freed, is_freed}
 use Rattle.words.proofs.Recounting.{owned_long, drop_none, down_owned, live_idles}
 use Rattle.words.proofs.Freeing.{freed_owned}
+use Rattle.words.proofs.ReleasingCases.{releasing_none, freed_none, releasing_more, freed_more, releasing_last, freed_last}
 
 pub kept_refl : (n : ℕ) (ws : List ℕ) → Kept n ws ws
 kept_refl n ws j l = (l, λ k p q. refl)
@@ -44,44 +44,6 @@ module _ (Valid : ℕ → Tree → ℕ → Type 0) (n v : ℕ) (ws ws' P : List 
 
   pub kept_pending : (p : ℕ) (t : Tree) → 1 ≤ occ p P → Reads n ws p t → Reads n ws' p t
   kept_pending p t h = kept_frame p t (live_pending Valid n v ws' P o p h)
-
--- The model, where a name is left and where none is.
-module _ (h : ℕ) (ws : List ℕ) where
-  pub releasing_none : releasing h ws 0 ≡ ws
-  unfolding releasing
-  releasing_none = go h
-    where
-      go : (h : ℕ) → releasing h ws 0 ≡ ws
-      go zero = refl
-      go (suc h) = refl
-
-  pub freed_none : freed h ws 0 ≡ 0
-  unfolding freed
-  freed_none = go h
-    where
-      go : (h : ℕ) → freed h ws 0 ≡ 0
-      go zero = refl
-      go (suc h) = refl
-
-  module _ (i : ℕ) where
-    pub releasing_more : 1 < count ws (suc i) → releasing (suc h) ws (suc i) ≡ with_count ws (suc i) (count ws (suc i) - 1)
-    unfolding releasing
-    releasing_more m = rw (lt-ltb 1 (count ws (suc i)) m)
-
-    pub freed_more : 1 < count ws (suc i) → freed (suc h) ws (suc i) ≡ 0
-    unfolding freed
-    freed_more m = rw (lt-ltb 1 (count ws (suc i)) m)
-
-    pub releasing_last : count ws (suc i) ≤ 1 →
-        releasing (suc h) ws (suc i) ≡ releasing h (releasing h (freeing ws (suc i)) (left ws (suc i))) (right ws (suc i))
-    unfolding releasing
-    releasing_last m = rw (le-ltb 1 (count ws (suc i)) m)
-
-    pub freed_last : count ws (suc i) ≤ 1 →
-        freed (suc h) ws (suc i)
-        ≡ freed h (freeing ws (suc i)) (left ws (suc i)) + freed h (releasing h (freeing ws (suc i)) (left ws (suc i))) (right ws (suc i)) + 1
-    unfolding freed
-    freed_last m = rw (le-ltb 1 (count ws (suc i)) m)
 
 -- What a release leaves, k nodes having been freed.
 pub record Released (Valid : ℕ → Tree → ℕ → Type 0) (n v : ℕ) (R : List ℕ) (k : ℕ) (ws ws' : List ℕ) : Type 0 where

@@ -1,4 +1,4 @@
-use Rattle.abreast.proofs.Parting.{passes_start, passes_end, both-topped, passes_more, passes_falls}
+use Rattle.abreast.proofs.Parting.{passes_start, passes_end, both_topped, passes_more, passes_falls}
 use Rattle.abreast.proofs.walk.Goals as goal
 
 pub loop-d-init : goal.loop-d-init
@@ -9,7 +9,7 @@ returns-then-not-alike c = search passes_end
 
 pub pop-next-requires : goal.pop-next-requires
 pop-next-requires c = search (
-  both-topped,
+  both_topped,
   c.dive-d.ensures,
   c.head-one.ensures,
   c.head-other.ensures,
@@ -19,7 +19,7 @@ pop-next-requires c = search (
 
 pub pop-other_next-requires : goal.pop-other_next-requires
 pop-other_next-requires c = search (
-  both-topped,
+  both_topped,
   c.dive-d.ensures,
   c.head-one.ensures,
   c.head-other.ensures,

@@ -1,11 +1,11 @@
-use Rattle.answers.proofs.Entries.{header_inside, slot_inside, enter-outside, enter_free, enter_held}
+use Rattle.answers.proofs.Entries.{header_inside, slot_inside, enter_outside, enter_free, enter_held}
 use Rattle.answers.proofs.enter.Goals as goal
 
 pub slots_of-requires : goal.slots_of-requires
 slots_of-requires c = search header_inside
 
 pub returns-then-slots_of-s : goal.returns-then-slots_of-s
-returns-then-slots_of-s c = search enter-outside
+returns-then-slots_of-s c = search enter_outside
 
 pub nodes_of-requires : goal.nodes_of-requires
 nodes_of-requires c = search header_inside

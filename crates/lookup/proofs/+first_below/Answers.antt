@@ -1,4 +1,4 @@
-use Rattle.lookup.proofs.Descents.{rooted_inside, rooted_high, lower, rooted-sides, first_none, first_left}
+use Rattle.lookup.proofs.Descents.{rooted_inside, rooted_high, lower, rooted_sides, first_none, first_left}
 use Rattle.lookup.proofs.+first_below.Goals as goal
 
 pub returns-then-i-eq0 : goal.returns-then-i-eq0
@@ -11,7 +11,7 @@ pub overflow_sub-h : goal.overflow_sub-h
 overflow_sub-h t c = search rooted_high
 
 pub first_below-l-requires : goal.first_below-l-requires
-first_below-l-requires t c = (search lower, search rooted-sides)
+first_below-l-requires t c = (search lower, search rooted_sides)
 
 pub returns : goal.returns
 returns t c = search first_left
