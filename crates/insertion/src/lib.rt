@@ -22,6 +22,7 @@ pub struct Put {
 }
 
 // RULES 6.25: "For a new key `balance` runs at each node of the path, on the way up."
+#[tactic(auto, using(crate::proofs::Inserting::settle_new, crate::proofs::Inserting::settle_old))]
 fn settle(ws: &[u32], plan: &mut [u32], x: Node, new: bool) -> u32
     requires room { Room ws.now plan.old balance_room }
     requires some { Some ws.now plan.old x.left }

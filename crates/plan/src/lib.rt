@@ -68,6 +68,7 @@ pub fn look(ws: &[u32], plan: &[u32], link: u32) -> Node
 }
 
 // Whether both were read as red: what the matches on pairs of colours in 000 test.
+#[tactic(auto, using(crate::proofs::Looking::first_red, crate::proofs::Looking::first_not))]
 pub fn both_red(a: Node, b: Node) -> bool
     ensures { result ≡ (eqb a.color 0 && eqb b.color 0) }
 {
