@@ -1,4 +1,5 @@
-//! Finds libfoamcorbel.a: in the folder that FOAMCORBEL_LIB_DIR names, or where `rt lib` writes it in crates/foamcorbel.
+//! Finds libfoamcorbel.a: in the folder that FOAMCORBEL_LIB_DIR names, or where `rt lib` writes it
+//! in crates/foamcorbel.
 use std::env;
 use std::path::PathBuf;
 

@@ -1,8 +1,10 @@
-//! A persistent map from DICOM tags to value positions, in words that the caller lends: a safe wrapper of Foamcorbel's C functions.
+//! A persistent map from DICOM tags to value positions, in words that the caller lends: a safe
+//! wrapper of Foamcorbel's C functions.
 //!
-//! The map itself is written in Rattle and proved; this crate declares its C functions and turns their results into Rust's.
-//! Each state of a header is a version, held by a [`Slot`] of an [`Arena`]. No call changes a version that is there:
-//! [`insert`](Arena::insert) and [`remove`](Arena::remove) hand out a slot for a new one. There is no heap and no panic.
+//! The map itself is written in Rattle and proved; this crate declares its C functions and turns
+//! their results into Rust's. Each state of a header is a version, held by a [`Slot`] of an
+//! [`Arena`]. No call changes a version that is there: [`insert`](Arena::insert) and
+//! [`remove`](Arena::remove) hand out a slot for a new one. There is no heap and no panic.
 //!
 //! ```
 //! use foamcorbel::{tag, Arena, Refusal};
@@ -22,8 +24,8 @@
 //! Each call first tests that the arena is sound, so that any words may be lent. That takes time in
 //! proportion to their number, and a step of a [`Range`] or of [`Differences`] is such a call too.
 //!
-//! The build looks for `libfoamcorbel.a` in the folder that the variable `FOAMCORBEL_LIB_DIR` names, and without it where `rt lib` writes it in
-//! the repository's `crates/foamcorbel`.
+//! The build looks for `libfoamcorbel.a` in the folder that the variable `FOAMCORBEL_LIB_DIR`
+//! names, and without it where `rt lib` writes it in the repository's `crates/foamcorbel`.
 #![no_std]
 #![deny(missing_docs)]
 
