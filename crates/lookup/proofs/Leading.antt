@@ -3,7 +3,9 @@
 -- finds below i. `get` notes nothing.
 use mathlib.Core.Path.{◌≡◌, refl}
 use mathlib.Core.List.{List}
-use mathlib.Core.Option.{Option}
+use Rattle.std.specs.Option.{option_or}
+use Rattle.std.specs.Prelude.{Option, Some, None}
+use Rattle.std.proofs.Math.Option as math
 use Prim.Native.Nat.{ℕ, ◌-◌}
 use native.Mathlib.Omega.{arith}
 use lib.Dec.{ltb}
@@ -15,56 +17,49 @@ use Rattle.trees.specs.Lookup.{get}
 use Rattle.arena.specs.Nodes.{IsNode}
 use Rattle.arena.specs.declared.Node.{Node}
 use Rattle.arena.specs.declared.Entry as arena
-use Rattle.lookup.specs.declared.Found.{Found}
-use Rattle.lookup.specs.declared.Found.TheVariants.{At, Nothing}
 use Rattle.lookup.specs.Finding.{Rooted, Finds}
 use Rattle.lookup.proofs.Descents.{rooted_left, rooted_right, get_none, get_left, get_right, get_here}
 
--- What is found further on, or else what was noted on the way there.
-abbrev pub or_noted : Found → Found → Found
-or_noted (At e) noted = At e
-or_noted Nothing noted = noted
-
-pub record Leads (f : Tree → Option Entry) (ws : List ℕ) (i at h : ℕ) (noted : Found) : Type 0 where
+pub record Leads (f : Tree → math.Option Entry) (ws : List ℕ) (i at h : ℕ) (noted : Option arena.Entry) : Type 0 where
   pub rooted : Rooted ws at h
-  pub leads : (r : Found) → Finds ws at r f → Finds ws i (or_noted r noted) f
+  pub leads : (r : Option arena.Entry) → Finds ws at r f → Finds ws i (option_or r noted) f
 
-pub leads_start : {f : Tree → Option Entry} {ws : List ℕ} {i h : ℕ} → Rooted ws i h → Leads f ws i i h Nothing
+pub leads_start : {f : Tree → math.Option Entry} {ws : List ℕ} {i h : ℕ} → Rooted ws i h → Leads f ws i i h None
 leads_start {f} {ws} {i} k = record { rooted = k; leads = go }
   where
-    go : (r : Found) → Finds ws i r f → Finds ws i (or_noted r Nothing) f
-    go (At e) found = found
-    go Nothing found = found
+    go : (r : Option arena.Entry) → Finds ws i r f → Finds ws i (option_or r None) f
+    go (Some e) found = found
+    go None found = found
 
-module _ {f : Tree → Option Entry} {ws : List ℕ} {i at h : ℕ} {noted : Found} (L : Leads f ws i at h noted) {link g : ℕ} (k : Rooted ws link g) where
+module _ {f : Tree → math.Option Entry} {ws : List ℕ} {i at h : ℕ} {noted : Option arena.Entry} (L : Leads f ws i at h noted) {link g : ℕ} (k : Rooted ws link g) where
   -- A round: what is found below the next link is found here.
-  pub leads_on : ((r : Found) → Finds ws link r f → Finds ws at r f) → Leads f ws i link g noted
+  pub leads_on : ((r : Option arena.Entry) → Finds ws link r f → Finds ws at r f) → Leads f ws i link g noted
   leads_on on = record { rooted = k; leads = λ r found. L.leads r (on r found) }
 
   -- A round that notes the entry e: found here is what is found below the next link, or else e.
-  pub leads_noting : {e : arena.Entry} → ((r : Found) → Finds ws link r f → Finds ws at (or_noted r (At e)) f) → Leads f ws i link g (At e)
+  pub leads_noting : {e : arena.Entry} → ((r : Option arena.Entry) → Finds ws link r f → Finds ws at (option_or r (Some e)) f) → Leads f ws i link g (Some e)
   leads_noting {e} on = record { rooted = k; leads = λ r found. go r (on r found) }
     where
-      go : (r : Found) → Finds ws at (or_noted r (At e)) f → Finds ws i (or_noted r (At e)) f
-      go (At x) found = L.leads (At x) found
-      go Nothing found = L.leads (At e) found
+      go : (r : Option arena.Entry) → Finds ws at (option_or r (Some e)) f → Finds ws i (option_or r (Some e)) f
+      go (Some x) found = L.leads (Some x) found
+      go None found = L.leads (Some e) found
 
 -- The loop ends below all nodes; at the key; goes on to a side; or ends at a node without children.
-module _ {ws : List ℕ} {i at h : ℕ} (k : ℕ) (L : Leads (get k) ws i at h Nothing) where
-  pub get_end : at ≡ 0 → Finds ws i Nothing (get k)
-  get_end e = L.leads Nothing (get_none k e)
+module _ {ws : List ℕ} {i at h : ℕ} (k : ℕ) (L : Leads (get k) ws i at h None) where
+  pub get_end : at ≡ 0 → Finds ws i None (get k)
+  get_end e = L.leads None (get_none k e)
 
   module _ {d : Node} (s : at ≡ 0 → ⊥) (m : IsNode ws at d) where
-    pub get_found : k ≡ d.entry.key → Finds ws i (At d.entry) (get k)
-    get_found e = L.leads (At d.entry) (get_here s m k (omega arith) (omega arith))
+    pub get_found : k ≡ d.entry.key → Finds ws i (Some d.entry) (get k)
+    get_found e = L.leads (Some d.entry) (get_here s m k (omega arith) (omega arith))
 
     module _ (other : k ≡ d.entry.key → ⊥) where
-      pub get_side : {r : ℕ} → r ≡ (if ltb k d.entry.key then d.left else d.right) → Leads (get k) ws i r (h - 1) Nothing
+      pub get_side : {r : ℕ} → r ≡ (if ltb k d.entry.key then d.left else d.right) → Leads (get k) ws i r (h - 1) None
       get_side e =
-          rw e (fork (λ (x : ℕ). Leads (get k) ws i x (h - 1) Nothing) (ltb k d.entry.key)
+          rw e (fork (λ (x : ℕ). Leads (get k) ws i x (h - 1) None) (ltb k d.entry.key)
           (λ t. leads_on L (rooted_left L.rooted s m) (λ r g. get_left s m k (ltb-true k d.entry.key t) g))
           (λ t. leads_on L (rooted_right L.rooted s m) (λ r g. get_right s m k (omega (arith, ltb-false k d.entry.key t)) g)))
 
-      pub get_childless : d.left ≡ 0 → d.right ≡ 0 → Finds ws i Nothing (get k)
+      pub get_childless : d.left ≡ 0 → d.right ≡ 0 → Finds ws i None (get k)
       get_childless l r =
-          (get_side refl).leads Nothing (get_none k (fork (λ (x : ℕ). x ≡ 0) (ltb k d.entry.key) (λ t. l) (λ t. r)))
+          (get_side refl).leads None (get_none k (fork (λ (x : ℕ). x ≡ 0) (ltb k d.entry.key) (λ t. l) (λ t. r)))

@@ -4,18 +4,39 @@
 
 ghost use Rattle.std.specs.Prelude.{◌≡◌, ltb, if◌then◌else◌};
 ghost use Rattle.words.specs.Layout.{max_height};
-ghost use Rattle.trees.specs.Listing.{or_else};
 ghost use Rattle.trees.specs.Lookup.{get as getOf, first as firstIn, last as last_in};
-ghost use Rattle.arena.specs.Nodes.{entry_of};
-ghost use Rattle.lookup.specs.Finding.{found_of, Rooted, Finds};
+ghost use Rattle.lookup.specs.Finding.{Rooted, Finds};
+ghost use Rattle.lookup.specs.Ends.{toward as towardOf, away as awayOf, entry_at};
 
 use arena::{Entry, MAX_HEIGHT, Node, node_at};
 
-// The entry that was looked for, if there is one.
+// RULES 7.4: the ends of a listing.
 #[derive(Clone, Copy)]
-pub enum Found {
-    At(Entry),
-    Nothing,
+pub enum End {
+    Front,
+    Back,
+}
+
+impl End {
+    // The child of a node that lies towards this end.
+    pub fn toward(self, d: Node) -> u32
+        ensures { result ≡ towardOf self d }
+    {
+        match self {
+            End::Front => d.left,
+            End::Back => d.right,
+        }
+    }
+
+    // The child that lies away from it.
+    pub fn away(self, d: Node) -> u32
+        ensures { result ≡ awayOf self d }
+    {
+        match self {
+            End::Front => d.right,
+            End::Back => d.left,
+        }
+    }
 }
 
 // Where the descent of `get` goes on below a node of another key.
@@ -31,7 +52,7 @@ fn side(d: Node, key: u32) -> u32
 
 // The entry with the key, in the version whose root is the link i. The remaining height h is only
 // what falls: no instruction is made of it.
-pub fn get(ws: &[u32], i: u32, key: u32) -> Found
+pub fn get(ws: &[u32], i: u32, key: u32) -> Option<Entry>
     requires { Rooted ws.now i max_height }
     ensures { Finds ws.now i result (getOf key) }
 {
@@ -41,69 +62,46 @@ pub fn get(ws: &[u32], i: u32, key: u32) -> Found
         let d = node_at(ws, at);
         let e = d.entry;
         if key == e.key {
-            return Found::At(e);
+            return Some(e);
         }
         // A node without children ends the descent. Since both links are asked for here, the side
         // is chosen between two numbers that are there, and not loaded once the keys are compared.
         if d.left == 0 {
             if d.right == 0 {
-                return Found::Nothing;
+                return None;
             }
         }
         at = side(d, key);
         h -= 1;
     }
-    Found::Nothing
+    None
 }
 
-// What was found further on, or else e.
-fn or_else(f: Found, e: Entry) -> Found
-    ensures { found_of result ≡ or_else (found_of f) (entry_of e) }
-{
-    match f {
-        Found::At(x) => Found::At(x),
-        Found::Nothing => Found::At(e),
-    }
-}
-
-fn first_below(ws: &[u32], i: u32, h: u32) -> Found
+// The entry at that end of the tree at the link i.
+fn entry_at(ws: &[u32], i: u32, h: u32, end: End) -> Option<Entry>
     requires { Rooted ws.now i h }
-    ensures { Finds ws.now i result firstIn }
+    ensures { Finds ws.now i result (entry_at end) }
 {
     if i == 0 {
-        return Found::Nothing;
+        return None;
     }
     let d = node_at(ws, i);
-    let e = d.entry;
-    let l = first_below(ws, d.left, h - 1);
-    or_else(l, e)
+    let nearer = entry_at(ws, end.toward(d), h - 1, end);
+    nearer.or(Some(d.entry))
 }
 
 // The entry with the least key.
-pub fn first(ws: &[u32], i: u32) -> Found
+pub fn first(ws: &[u32], i: u32) -> Option<Entry>
     requires { Rooted ws.now i max_height }
     ensures { Finds ws.now i result firstIn }
 {
-    first_below(ws, i, MAX_HEIGHT)
-}
-
-fn last_below(ws: &[u32], i: u32, h: u32) -> Found
-    requires { Rooted ws.now i h }
-    ensures { Finds ws.now i result last_in }
-{
-    if i == 0 {
-        return Found::Nothing;
-    }
-    let d = node_at(ws, i);
-    let e = d.entry;
-    let r = last_below(ws, d.right, h - 1);
-    or_else(r, e)
+    entry_at(ws, i, MAX_HEIGHT, End::Front)
 }
 
 // The entry with the greatest key.
-pub fn last(ws: &[u32], i: u32) -> Found
+pub fn last(ws: &[u32], i: u32) -> Option<Entry>
     requires { Rooted ws.now i max_height }
     ensures { Finds ws.now i result last_in }
 {
-    last_below(ws, i, MAX_HEIGHT)
+    entry_at(ws, i, MAX_HEIGHT, End::Back)
 }
