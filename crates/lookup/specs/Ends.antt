@@ -21,6 +21,10 @@ abbrev pub away : End → Node → ℕ
 away Front d = d.right
 away Back d = d.left
 
+abbrev pub opposite : End → End
+opposite Front = Back
+opposite Back = Front
+
 abbrev pub entry_at : End → trees.Tree → Option trees.Entry
 entry_at Front = first
 entry_at Back = last

@@ -6,7 +6,7 @@ ghost use Rattle.std.specs.Prelude.{◌≡◌, ltb, if◌then◌else◌};
 ghost use Rattle.words.specs.Layout.{max_height};
 ghost use Rattle.trees.specs.Lookup.{get as getOf, first as firstIn, last as last_in};
 ghost use Rattle.lookup.specs.Finding.{Rooted, Finds};
-ghost use Rattle.lookup.specs.Ends.{toward as towardOf, away as awayOf, entry_at};
+ghost use Rattle.lookup.specs.Ends.{toward as towardOf, away as awayOf, opposite as oppositeOf, entry_at};
 
 use arena::{Entry, MAX_HEIGHT, Node, node_at};
 
@@ -35,6 +35,15 @@ impl End {
         match self {
             End::Front => d.right,
             End::Back => d.left,
+        }
+    }
+
+    pub fn opposite(self) -> End
+        ensures { result ≡ oppositeOf self }
+    {
+        match self {
+            End::Front => End::Back,
+            End::Back => End::Front,
         }
     }
 }

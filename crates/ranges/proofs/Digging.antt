@@ -1,58 +1,57 @@
--- A round of the descents towards an end of a range: an entry in range is noted, and the descent
+-- A round of the descent towards an end of a range: an entry in range is noted, and the descent
 -- goes on to what is nearer that end, else away from it.
-use mathlib.Core.Path.{◌≡◌, refl, sym, ap, ◌∙◌}
-use mathlib.Core.Bool.{Bool, true, false}
-use mathlib.Core.List.{List}
-use mathlib.Core.Option.{Option}
-use Prim.Native.Nat.{ℕ, ◌-◌}
+use Rattle.std.proofs.Common.{◌≡◌, ℕ, ◌-◌, List, Bool, true, false, refl, sym, ap, ◌∙◌}
+use Rattle.std.specs.Option.{option_or}
+use Rattle.std.specs.Prelude.{Option, Some, None}
+use Rattle.std.proofs.Math.Option as math
 use Rattle.trees.specs.Tree.{Entry}
 use Rattle.trees.specs.Listing.{or_else}
+use Rattle.trees.specs.Range.{Range}
 use Rattle.trees.specs.Lookup.{least, greatest}
 use Rattle.arena.specs.Nodes.{entry_of, IsNode}
 use Rattle.arena.specs.declared.Node.{Node}
 use Rattle.arena.specs.declared.Entry as arena
-use Rattle.lookup.specs.declared.Found.{Found}
-use Rattle.lookup.specs.declared.Found.TheVariants.{At, Nothing}
 use Rattle.lookup.specs.Finding.{found_of, Finds}
-use Rattle.lookup.proofs.Descents.{at_none, at_node, rooted_left, rooted_right}
-use Rattle.lookup.proofs.Leading.{or_noted, Leads, leads_on, leads_noting}
+use Rattle.lookup.specs.declared.End.{End}
+use Rattle.lookup.specs.declared.End.TheVariants.{Front, Back}
+use Rattle.lookup.specs.Ends.{toward, away}
+use Rattle.lookup.proofs.Descents.{at_none, at_node, rooted_toward, rooted_away}
+use Rattle.lookup.proofs.Leading.{Leads, leads_on, leads_noting}
+use Rattle.ranges.specs.Digging.{admits, dug}
 
-noted_else : {o : Option Entry} (r : Found) (e : arena.Entry) → found_of r ≡ o → found_of (or_noted r (At e)) ≡ or_else o (entry_of e)
-noted_else (At x) e h = ap (λ (o : Option Entry). or_else o (entry_of e)) h
-noted_else Nothing e h = ap (λ (o : Option Entry). or_else o (entry_of e)) h
+noted_else : {o : math.Option Entry} (r : Option arena.Entry) (e : arena.Entry) → found_of r ≡ o → found_of (option_or r (Some e)) ≡ or_else o (entry_of e)
+noted_else (Some x) e h = ap (λ (o : math.Option Entry). or_else o (entry_of e)) h
+noted_else None e h = ap (λ (o : math.Option Entry). or_else o (entry_of e)) h
 
-module _ {ws : List ℕ} {i at h : ℕ} {noted : Found} (p : ℕ → Bool) where
-  pub least_end : Leads (least p) ws i at h noted → at ≡ 0 → Finds ws i noted (least p)
-  unfolding least
-  least_end L z = L.leads Nothing (at_none Nothing (least p) z refl)
+dug_none : {ws : List ℕ} {at : ℕ} (end : End) (w : Range) → at ≡ 0 → Finds ws at None (dug end w)
+unfolding least greatest
+dug_none Front w z = at_none None (dug Front w) z refl
+dug_none Back w z = at_none None (dug Back w) z refl
 
-  pub greatest_end : Leads (greatest p) ws i at h noted → at ≡ 0 → Finds ws i noted (greatest p)
-  unfolding greatest
-  greatest_end L z = L.leads Nothing (at_none Nothing (greatest p) z refl)
+-- Above a node in range stands what is found towards the end, or else its entry; above another,
+-- what is found away from the end.
+module _ {ws : List ℕ} {at : ℕ} {d : Node} (w : Range) (s : at ≡ 0 → ⊥) (m : IsNode ws at d) where
+  dug_toward : (end : End) → true ≡ admits end w d.entry.key → (r : Option arena.Entry) → Finds ws (toward end d) r (dug end w) →
+      Finds ws at (option_or r (Some d.entry)) (dug end w)
+  unfolding least greatest
+  dug_toward Front t r g =
+      at_node (option_or r (Some d.entry)) (dug Front w) s m (λ n q c a b ha hb. rw (sym t) (noted_else r d.entry (g.says n a ha)))
+  dug_toward Back t r g =
+      at_node (option_or r (Some d.entry)) (dug Back w) s m (λ n q c a b ha hb. rw (sym t) (noted_else r d.entry (g.says n b hb)))
 
-  module _ {d : Node} {t : Bool} {link : ℕ} {next : Found} (s : at ≡ 0 → ⊥) (m : IsNode ws at d) (tested : t ≡ p d.entry.key) where
-    pub least_left : t ≡ true → link ≡ d.left → next ≡ At d.entry → Leads (least p) ws i at h noted → Leads (least p) ws i link (h - 1) next
-    unfolding least
-    least_left y l e L =
-        rw (l, e)
-        (leads_noting L (rooted_left L.rooted s m)
-        (λ r g. at_node (or_noted r (At d.entry)) (least p) s m (λ n q c a b ha hb. rw (sym tested ∙ y) (noted_else r d.entry (g.says n a ha)))))
+  dug_away : (end : End) → false ≡ admits end w d.entry.key → (r : Option arena.Entry) → Finds ws (away end d) r (dug end w) → Finds ws at r (dug end w)
+  unfolding least greatest
+  dug_away Front t r g = at_node r (dug Front w) s m (λ n q c a b ha hb. rw (sym t) (g.says n b hb))
+  dug_away Back t r g = at_node r (dug Back w) s m (λ n q c a b ha hb. rw (sym t) (g.says n a ha))
 
-    pub least_right : t ≡ false → link ≡ d.right → next ≡ noted → Leads (least p) ws i at h noted → Leads (least p) ws i link (h - 1) next
-    unfolding least
-    least_right y l e L =
-        rw (l, e)
-        (leads_on L (rooted_right L.rooted s m) (λ r g. at_node r (least p) s m (λ n q c a b ha hb. rw (sym tested ∙ y) (g.says n b hb))))
+module _ {ws : List ℕ} {i at h : ℕ} {noted : Option arena.Entry} (end : End) (w : Range) (L : Leads (dug end w) ws i at h noted) where
+  pub dig_end : at ≡ 0 → Finds ws i noted (dug end w)
+  dig_end z = L.leads None (dug_none end w z)
 
-    pub greatest_right : t ≡ true → link ≡ d.right → next ≡ At d.entry → Leads (greatest p) ws i at h noted → Leads (greatest p) ws i link (h - 1) next
-    unfolding greatest
-    greatest_right y l e L =
-        rw (l, e)
-        (leads_noting L (rooted_right L.rooted s m)
-        (λ r g. at_node (or_noted r (At d.entry)) (greatest p) s m (λ n q c a b ha hb. rw (sym tested ∙ y) (noted_else r d.entry (g.says n b hb)))))
+  module _ {d : Node} {t : Bool} {side link : ℕ} {next : Option arena.Entry} (s : at ≡ 0 → ⊥) (m : IsNode ws at d) (tested : t ≡ admits end w d.entry.key) where
+    pub dig_noting : t ≡ true → side ≡ toward end d → link ≡ side → next ≡ Some d.entry → Leads (dug end w) ws i link (h - 1) next
+    dig_noting y o l e =
+        rw (l, o, e) (leads_noting L (rooted_toward L.rooted s end m refl) (dug_toward w s m end (sym y ∙ tested)))
 
-    pub greatest_left : t ≡ false → link ≡ d.left → next ≡ noted → Leads (greatest p) ws i at h noted → Leads (greatest p) ws i link (h - 1) next
-    unfolding greatest
-    greatest_left y l e L =
-        rw (l, e)
-        (leads_on L (rooted_left L.rooted s m) (λ r g. at_node r (greatest p) s m (λ n q c a b ha hb. rw (sym tested ∙ y) (g.says n a ha))))
+    pub dig_on : t ≡ false → side ≡ away end d → link ≡ side → next ≡ noted → Leads (dug end w) ws i link (h - 1) next
+    dig_on y o l e = rw (l, o, e) (leads_on L (rooted_away L.rooted s end m refl) (dug_away w s m end (sym y ∙ tested)))

@@ -3,39 +3,28 @@
 
 ghost use Rattle.std.specs.Prelude.{◌≡◌};
 ghost use Rattle.words.specs.Layout.{max_height};
-ghost use Rattle.trees.specs.Range.{from_start, to_end, past, after_front, before_back, front as atFront, back as atBack};
-ghost use Rattle.trees.specs.Lookup.{least as leastOf, greatest as greatestOf, step as step_of};
+ghost use Rattle.trees.specs.Range.{from_start, to_end, past};
+ghost use Rattle.trees.specs.Lookup.{step as step_of};
 ghost use Rattle.lookup.specs.Finding.{Rooted, Finds};
+ghost use Rattle.lookup.specs.Ends.{end_of};
 ghost use Rattle.ranges.specs.Ranges.{bound_of, last_of, range_of};
+ghost use Rattle.ranges.specs.Digging.{admits, dug};
 
-use arena::{MAX_HEIGHT, node_at};
-use lookup::Found;
+use arena::{Entry, MAX_HEIGHT, node_at};
+use lookup::End;
+use std::ops::Bound;
 
-// RULES 7.1: an end of a range.
-#[derive(Clone, Copy)]
-pub enum Bound {
-    Included(u32),
-    Excluded(u32),
-    Unbounded,
-}
-
-// RULES 7.1: the last key that a walk gave at one of its ends, if any.
-#[derive(Clone, Copy)]
-pub enum LastKey {
-    Given(u32),
-    NotGiven,
-}
-
-// What a walk keeps besides its slot.
+// RULES 7.1: what a walk keeps besides its slot: the ends of its range, and the last key that it
+// gave at either end, if any.
 #[derive(Clone, Copy)]
 pub struct Range {
-    pub start: Bound,
-    pub end: Bound,
-    pub front: LastKey,
-    pub back: LastKey,
+    pub start: Bound<u32>,
+    pub end: Bound<u32>,
+    pub front: Option<u32>,
+    pub back: Option<u32>,
 }
 
-fn from_start(b: Bound, key: u32) -> bool
+fn from_start(b: Bound<u32>, key: u32) -> bool
     ensures { result ≡ from_start (bound_of b) key }
 {
     match b {
@@ -45,7 +34,7 @@ fn from_start(b: Bound, key: u32) -> bool
     }
 }
 
-fn to_end(b: Bound, key: u32) -> bool
+fn to_end(b: Bound<u32>, key: u32) -> bool
     ensures { result ≡ to_end (bound_of b) key }
 {
     match b {
@@ -56,112 +45,59 @@ fn to_end(b: Bound, key: u32) -> bool
 }
 
 // RULES 7.3: a last key is excluded; none given bounds nothing.
-fn past_last(l: LastKey) -> Bound
-    ensures { bound_of result ≡ past (last_of l) }
+fn past(last: Option<u32>) -> Bound<u32>
+    ensures { bound_of result ≡ past (last_of last) }
 {
-    match l {
-        LastKey::Given(k) => Bound::Excluded(k),
-        LastKey::NotGiven => Bound::Unbounded,
+    match last {
+        Some(k) => Bound::Excluded(k),
+        None => Bound::Unbounded,
     }
 }
 
-fn after_front(w: Range, key: u32) -> bool
-    ensures { result ≡ after_front (range_of w) key }
+// Whether the key is in range as seen from that end, which has not passed it.
+fn admits(w: Range, end: End, key: u32) -> bool
+    ensures { result ≡ admits end (range_of w) key }
 {
-    let start = w.start;
-    let last = w.front;
-    if !from_start(start, key) {
-        return false;
+    match end {
+        End::Front => from_start(w.start, key) && from_start(past(w.front), key),
+        End::Back => to_end(w.end, key) && to_end(past(w.back), key),
     }
-    from_start(past_last(last), key)
 }
 
-fn before_back(w: Range, key: u32) -> bool
-    ensures { result ≡ before_back (range_of w) key }
-{
-    let end = w.end;
-    let last = w.back;
-    if !to_end(end, key) {
-        return false;
-    }
-    to_end(past_last(last), key)
-}
-
-// The least entry that the front has not passed: `dig_towards`. The remaining height h is only what
+// The entry nearest to that end which it has not passed. The remaining height h is only what
 // falls: no instruction is made of it.
-fn least(ws: &[u32], i: u32, w: Range) -> Found
+fn dig_towards(ws: &[u32], i: u32, w: Range, end: End) -> Option<Entry>
     requires { Rooted ws.now i max_height }
-    ensures { Finds ws.now i result (leastOf (after_front (range_of w))) }
+    ensures { Finds ws.now i result (dug end (range_of w)) }
 {
     let mut at = i;
     let mut h = MAX_HEIGHT;
-    let mut lowest = Found::Nothing;
+    let mut noted = None;
     while at != 0 {
         let d = node_at(ws, at);
         let e = d.entry;
-        let nearer = d.left;
-        let further = d.right;
-        if after_front(w, e.key) {
-            lowest = Found::At(e);
+        let nearer = end.toward(d);
+        let further = end.away(d);
+        if admits(w, end, e.key) {
+            noted = Some(e);
             at = nearer;
         } else {
             at = further;
         }
         h -= 1;
     }
-    lowest
+    noted
 }
 
-// The greatest entry that the back has not passed.
-fn greatest(ws: &[u32], i: u32, w: Range) -> Found
+// A step at that end: the nearest entry left, unless it has passed the other end.
+pub fn step(ws: &[u32], i: u32, w: Range, end: End) -> Option<Entry>
     requires { Rooted ws.now i max_height }
-    ensures { Finds ws.now i result (greatestOf (before_back (range_of w))) }
+    ensures { Finds ws.now i result (step_of (end_of end) (range_of w)) }
 {
-    let mut at = i;
-    let mut h = MAX_HEIGHT;
-    let mut highest = Found::Nothing;
-    while at != 0 {
-        let d = node_at(ws, at);
-        let e = d.entry;
-        let nearer = d.right;
-        let further = d.left;
-        if before_back(w, e.key) {
-            highest = Found::At(e);
-            at = nearer;
-        } else {
-            at = further;
-        }
-        h -= 1;
-    }
-    highest
-}
-
-// A front step: the least entry left, unless it has passed the back.
-pub fn step_front(ws: &[u32], i: u32, w: Range) -> Found
-    requires { Rooted ws.now i max_height }
-    ensures { Finds ws.now i result (step_of atFront (range_of w)) }
-{
-    let Found::At(e) = least(ws, i, w) else {
-        return Found::Nothing;
-    };
-    if before_back(w, e.key) {
-        Found::At(e)
+    let e = dig_towards(ws, i, w, end)?;
+    if admits(w, end.opposite(), e.key) {
+        Some(e)
     } else {
-        Found::Nothing
-    }
-}
-
-// A back step: the greatest entry left, unless it has passed the front.
-pub fn step_back(ws: &[u32], i: u32, w: Range) -> Found
-    requires { Rooted ws.now i max_height }
-    ensures { Finds ws.now i result (step_of atBack (range_of w)) }
-{
-    let Found::At(e) = greatest(ws, i, w) else {
-        return Found::Nothing;
-    };
-    if after_front(w, e.key) {
-        Found::At(e)
-    } else {
-        Found::Nothing
+        None
     }
 }

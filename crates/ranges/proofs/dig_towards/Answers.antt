@@ -1,8 +1,8 @@
 use Rattle.lookup.proofs.Descents.{rooted_inside, rooted_high, lower}
 use Rattle.lookup.proofs.Leading.{leads_start}
-use Rattle.ranges.proofs.Digging.{greatest_end, greatest_right, greatest_left}
-use Rattle.ranges.proofs.greatest.Goals as goal
-use Rattle.ranges.proofs.greatest.Goals.{then-before_back, else-before_back}
+use Rattle.ranges.proofs.Digging.{dig_end, dig_noting, dig_on}
+use Rattle.ranges.proofs.dig_towards.Goals as goal
+use Rattle.ranges.proofs.dig_towards.Goals.{then-admits, else-admits}
 
 pub loop-at-init : goal.loop-at-init
 loop-at-init c = search leads_start
@@ -17,7 +17,7 @@ pub loop-at-smaller : goal.loop-at-smaller
 loop-at-smaller c = search lower
 
 pub loop-at-preserved : goal.loop-at-preserved
-loop-at-preserved c = elim c.if-before_back.branch [ then-before_back w ↦ search greatest_right | else-before_back w ↦ search greatest_left ]
+loop-at-preserved c = elim c.if-admits.branch [ then-admits w ↦ search dig_noting | else-admits w ↦ search dig_on ]
 
 pub returns : goal.returns
-returns c = search greatest_end
+returns c = search dig_end
