@@ -19,7 +19,7 @@ use Rattle.calls.specs.Outcome.{Outcome}
 use Rattle.calls.proofs.Passing.{no_version_outcome}
 use Rattle.answers.specs.declared.Refusal.{Refusal}
 use Rattle.answers.specs.declared.Refusal.TheVariants.{NoVersion}
-use Rattle.answers.specs.declared.Entered.{Entered}
+use Rattle.std.specs.Prelude.{Result, Ok, Err}
 use Rattle.answers.specs.Answers.{refusal_of}
 use Rattle.answers.specs.Entering.{Entering, Enters}
 
@@ -31,16 +31,16 @@ module _ {ws : List ℕ} (S : Sound ws) where
   slot_inside d l e = omega (arith, S.trees.limits.long_is)
 
 module _ {ws : List ℕ} {s : ℕ} where
-  pub enter_beyond : {v : ℕ} → v ≡ slots ws → v ≤ s → Enters ws s (Entered.Refused NoVersion)
+  pub enter_beyond : {v : ℕ} → v ≡ slots ws → v ≤ s → Enters ws s (Err NoVersion)
   enter_beyond e l = record { entering = (refl, λ h. omega (arith, h.inside)) }
 
-  pub enter_above : {v : ℕ} → v ≡ slots ws → v < s → Enters ws s (Entered.Refused NoVersion)
+  pub enter_above : {v : ℕ} → v ≡ slots ws → v < s → Enters ws s (Err NoVersion)
   enter_above e l = enter_beyond e (omega arith)
 
-  pub enter_free : {n i : ℕ} → n ≡ nodes ws → i ≡ slot_root n ws s → i ≡ 4294967295 → Enters ws s (Entered.Refused NoVersion)
+  pub enter_free : {n i : ℕ} → n ≡ nodes ws → i ≡ slot_root n ws s → i ≡ 4294967295 → Enters ws s (Err NoVersion)
   enter_free {n} {i} e r f = record { entering = (refl, λ h. h.held (ap (λ (m : ℕ). slot_root m ws s) (sym e) ∙ sym r ∙ f)) }
 
-  pub enter_held : {v n i : ℕ} → v ≡ slots ws → s < v → n ≡ nodes ws → i ≡ slot_root n ws s → (i ≡ 4294967295 → ⊥) → Enters ws s (Entered.Root i)
+  pub enter_held : {v n i : ℕ} → v ≡ slots ws → s < v → n ≡ nodes ws → i ≡ slot_root n ws s → (i ≡ 4294967295 → ⊥) → Enters ws s (Ok i)
   enter_held {v} {n} {i} d l e r f =
       let z : i ≡ slot_root (nodes ws) ws s = r ∙ ap (λ (m : ℕ). slot_root m ws s) e in
       record { entering = (record { inside = omega arith; held = λ h. f (z ∙ h) }, z) }
@@ -48,19 +48,19 @@ module _ {ws : List ℕ} {s : ℕ} where
 -- Testing for more than V would refuse rightly too; that it lets V through, the read of the slot shows.
 pub ruleset enter_outside = (enter_beyond, enter_above)
 
-module _ {ws : List ℕ} {s : ℕ} {x : Entered} (S : Sound ws) (g : Enters ws s x) where
-  pub root_of : {i : ℕ} → x ≡ Entered.Root i → Held ws s × (i ≡ slot_root (nodes ws) ws s)
+module _ {ws : List ℕ} {s : ℕ} {x : Result ℕ Refusal} (S : Sound ws) (g : Enters ws s x) where
+  pub root_of : {i : ℕ} → x ≡ Ok i → Held ws s × (i ≡ slot_root (nodes ws) ws s)
   root_of e = subst (Entering ws s) e g.entering
 
-  pub held_inside : {i n : ℕ} → x ≡ Entered.Root i → n ≡ nodes ws → SlotInside n ws s
+  pub held_inside : {i n : ℕ} → x ≡ Ok i → n ≡ nodes ws → SlotInside n ws s
   held_inside e m = omega (arith, S.trees.limits.long_is, (root_of e).0.inside)
 
-  pub rooted : {i : ℕ} → x ≡ Entered.Root i → Rooted ws i max_height
+  pub rooted : {i : ℕ} → x ≡ Ok i → Rooted ws i max_height
   rooted {i} e = let y = root_of e in rw y.1 (version_rooted ws S s y.0)
 
   -- Any call that begins with the two tests and names the slot.
   pub version_refused : {c : call.Call} {rs : List calls.Refusal} {r : Refusal} → tests c ≡ calls.Refusal.unsound ∷ (calls.Refusal.no_version ∷ rs) →
-      1 ≤ occ s (slots_of c) → x ≡ Entered.Refused r → Outcome c ws (call.Answer.refused (refusal_of r)) ws
+      1 ≤ occ s (slots_of c) → x ≡ Err r → Outcome c ws (call.Answer.refused (refusal_of r)) ws
   version_refused {c} {rs} {r} starts named e =
       let y = subst (Entering ws s) e g.entering in
       rw y.0 (no_version_outcome starts S s named y.1)
