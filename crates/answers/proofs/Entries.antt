@@ -19,8 +19,9 @@ use Rattle.calls.specs.Outcome.{Outcome}
 use Rattle.calls.proofs.Passing.{no_version_outcome}
 use Rattle.answers.specs.declared.Refusal.{Refusal}
 use Rattle.answers.specs.declared.Refusal.TheVariants.{NoVersion}
-use Rattle.std.specs.Prelude.{Result, Ok, Err}
-use Rattle.answers.specs.Answers.{refusal_of}
+use Rattle.std.specs.Prelude.{Result, Ok, Err, IsErrAnd}
+use Rattle.std.proofs.lemmas.Result.{err_from_is_err_and}
+use Rattle.answers.specs.Answers.{refusal_of, answer_by}
 use Rattle.answers.specs.Entering.{Entering, Enters}
 
 module _ {ws : List ℕ} (S : Sound ws) where
@@ -64,6 +65,13 @@ module _ {ws : List ℕ} {s : ℕ} {x : Result ℕ Refusal} (S : Sound ws) (g : 
   version_refused {c} {rs} {r} starts named e =
       let y = subst (Entering ws s) e g.entering in
       rw y.0 (no_version_outcome starts S s named y.1)
+
+-- The same of a call that passes the refusal of the way in on.
+pub version_passed : {A : Type 0} {ws : List ℕ} {s : ℕ} {c : call.Call} {rs : List calls.Refusal} {r : Refusal} (f : A → call.Answer) →
+    Sound ws → tests c ≡ calls.Refusal.unsound ∷ (calls.Refusal.no_version ∷ rs) → 1 ≤ occ s (slots_of c) → Enters ws s (Err r) →
+    (y : Result A Refusal) → IsErrAnd y (λ e. e ≡ r) → Outcome c ws (answer_by f y) ws
+version_passed f S starts named g y p =
+    let q = err_from_is_err_and y p in rw (q.1, q.2) (version_refused S g starts named refl)
 
 -- A slot that the call names first.
 pub named-first : (s : ℕ) (xs : List ℕ) → 1 ≤ occ s (s ∷ xs)

@@ -1,5 +1,5 @@
 -- What a lookup at the root that was entered found is what it finds in the slot's tree.
-use mathlib.Core.Path.{◌≡◌, ap, sym, ◌∙◌, subst}
+use mathlib.Core.Path.{◌≡◌, refl, ap, sym, ◌∙◌, subst}
 use mathlib.Core.List.{List}
 use Rattle.std.specs.Prelude.{Option}
 use Rattle.std.proofs.Math.Option as math
@@ -17,7 +17,10 @@ use Rattle.calls.specs.Call as call
 use Rattle.calls.specs.Version.{VersionIs}
 use Rattle.calls.specs.Outcome.{Outcome}
 use Rattle.calls.proofs.Versions.{version_of}
-use Rattle.std.specs.Prelude.{Result, Ok}
+use Rattle.std.specs.Prelude.{Result, Ok, Err, IsErrAnd, ok_or, Some, None}
+use Rattle.std.proofs.lemmas.Result.{err_from_is_err_and}
+use Rattle.arena.specs.Nodes.{entry_of}
+use Rattle.answers.specs.Answers.{refusal_of, answer_by}
 use Rattle.answers.specs.declared.Refusal.{Refusal}
 use Rattle.answers.specs.Entering.{Enters}
 use Rattle.answers.proofs.Entries.{root_of}
@@ -43,3 +46,15 @@ module _ {ws : List ℕ} {s : ℕ} {x : Result ℕ Refusal} (S : Sound ws) (g : 
   pub by_found : {c : call.Call} (r : calls.Refusal) (a : trees.Entry → call.Answer) {f : Option Entry} {look : trees.Tree → math.Option trees.Entry} →
       Finds ws i f look → Outcome c ws (or_refused r a (look slot_tree)) ws → {y : Option Entry} → f ≡ y → Outcome c ws (or_refused r a (found_of y)) ws
   by_found {c} r a {f} {look} m o {y} z = subst (λ (q : math.Option trees.Entry). Outcome c ws (or_refused r a q) ws) (sym (found_in f look m) ∙ ap found_of z) o
+
+-- What was found, or else a refusal: as the code says it, and as the rules do.
+module _ (r : Refusal) (t : trees.Entry → call.Answer) where
+  pub entry_or : (f : Option Entry) → answer_by (λ e. t (entry_of e)) (ok_or f r) ≡ or_refused (refusal_of r) t (found_of f)
+  entry_or (Some e) = refl
+  entry_or None = refl
+
+  -- A refusal that is passed on.
+  pub absence_passed : {A : Type 0} (f : Option Entry) (b : A → call.Answer) {q : Refusal} → ok_or f r ≡ Err q → (y : Result A Refusal) →
+      IsErrAnd y (λ e. e ≡ q) → answer_by b y ≡ or_refused (refusal_of r) t (found_of f)
+  absence_passed (Some e) b h y p = absurd (cc)
+  absence_passed None b {q} h y p = let w = err_from_is_err_and y p in let z : r ≡ q = cc in rw (w.1, w.2, ← z)

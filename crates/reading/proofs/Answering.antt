@@ -1,96 +1,62 @@
 -- One law for each way in which a reading call returns.
-use mathlib.Core.Path.{◌≡◌, refl, ap, sym, ◌∙◌}
-use mathlib.Core.Bool.{true, false, ◌||◌}
-use mathlib.Core.List.{List, []}
-use mathlib.Core.Option.{Option}
-use Prim.Native.Nat.{ℕ}
+use Rattle.std.proofs.Common.{◌≡◌, ℕ, List, refl, ap, sym, ◌∙◌, ◌||◌, false}
+use Rattle.std.specs.Result.{result_ok}
+use Rattle.std.specs.Prelude.{Option, Some, None, is_some, Result, Ok, Err, IsErrAnd, ok_or}
+use Rattle.std.proofs.Math.Option as math
 use Rattle.trees.specs.Tree as trees
-use Rattle.trees.specs.Listing.{is_some}
+use Rattle.trees.specs.Listing as listing
 use Rattle.trees.specs.Lookup as lookup
 use Rattle.trees.proofs.Lookups.{get_find}
 use Rattle.words.specs.Layout.{nodes, slot_size}
 use Rattle.words.specs.Sound.{Sound}
-use Rattle.arena.specs.Nodes.{entry_of}
 use Rattle.arena.specs.declared.Entry.{Entry}
-use Rattle.lookup.specs.declared.Found.{Found}
-use Rattle.lookup.specs.declared.Found.TheVariants.{At, Nothing}
 use Rattle.lookup.specs.Finding.{found_of, Finds}
 use Rattle.calls.specs.Refusal as calls
 use Rattle.calls.specs.Call as call
-use Rattle.calls.specs.Reading.{value_of, rescale_slope, or_refused}
+use Rattle.calls.specs.Reading.{value_of, rescale_slope}
 use Rattle.calls.specs.Outcome.{Outcome}
 use Rattle.calls.proofs.Versions.{version_of, version_fine}
 use Rattle.calls.proofs.ReadingOutcomes.{size_outcome, rescale_mark_outcome, get_outcome, first_outcome, last_outcome}
 use Rattle.answers.specs.declared.Refusal.{Refusal}
-use Rattle.answers.specs.declared.Entered.{Entered}
-use Rattle.answers.specs.Answers.{refusal_of}
+use Rattle.answers.specs.declared.Refusal.TheVariants.{Absent}
+use Rattle.answers.specs.Answers.{value_answer, entry_answer}
 use Rattle.answers.specs.Entering.{Enters}
-use Rattle.answers.proofs.Entries.{version_refused, named-first}
-use Rattle.answers.proofs.Finding.{slot_held, slot_tree, found_in, by_found}
+use Rattle.answers.proofs.Finding.{slot_held, slot_tree, found_in, by_found, entry_or, absence_passed}
 
-module _ {ws : List ℕ} {s : ℕ} {x : Entered} (S : Sound ws) (g : Enters ws s x) where
-  module _ {r : Refusal} (e : x ≡ Entered.Refused r) where
-    pub size_refused : Outcome (call.Call.size s) ws (call.Answer.refused (refusal_of r)) ws
-    size_refused = version_refused S g refl (named-first s []) e
+module _ {ws : List ℕ} {s i : ℕ} {x : Result ℕ Refusal} (S : Sound ws) (g : Enters ws s x) (e : x ≡ Ok i) where
+  pub size_told : {n z : ℕ} → n ≡ nodes ws → z ≡ slot_size n ws s → Outcome (call.Call.size s) ws (call.Answer.number z) ws
+  size_told {n} {z} m q = rw (q ∙ ap (λ (k : ℕ). slot_size k ws s) m) (size_outcome S (version_of S s (slot_held S g e)))
 
-    pub get_refused : (k : ℕ) → Outcome (call.Call.get s k) ws (call.Answer.refused (refusal_of r)) ws
-    get_refused k = version_refused S g refl (named-first s []) e
+  module _ {f : Option Entry} where
+    module _ {k : ℕ} (m : Finds ws i f (lookup.get k)) where
+      pub get_value : {o : Result Entry Refusal} {y : Entry} → f ≡ result_ok o → o ≡ Ok y → Outcome (call.Call.get s k) ws (call.Answer.value y.value) ws
+      get_value p z = by_found S g e calls.Refusal.absent value_of m (get_outcome S (version_of S s (slot_held S g e)) k) (p ∙ ap result_ok z)
 
-    pub first_refused : Outcome (call.Call.first s) ws (call.Answer.refused (refusal_of r)) ws
-    first_refused = version_refused S g refl (named-first s []) e
+      pub get_absent : {o : Result Entry Refusal} {q : Refusal} → o ≡ ok_or f Absent → o ≡ Err q → (y : Result ℕ Refusal) → IsErrAnd y (λ e. e ≡ q) → Outcome (call.Call.get s k) ws (value_answer y) ws
+      get_absent t h y p =
+          rw (absence_passed Absent value_of f call.Answer.value (sym t ∙ h) y p)
+          (by_found S g e calls.Refusal.absent value_of m (get_outcome S (version_of S s (slot_held S g e)) k) refl)
 
-    pub last_refused : Outcome (call.Call.last s) ws (call.Answer.refused (refusal_of r)) ws
-    last_refused = version_refused S g refl (named-first s []) e
+    module _ {y : Result Entry Refusal} (told : y ≡ ok_or f Absent) where
+      pub first_told : Finds ws i f lookup.first → Outcome (call.Call.first s) ws (entry_answer y) ws
+      first_told m =
+          rw (told, entry_or Absent call.Answer.entry f)
+          (by_found S g e calls.Refusal.absent call.Answer.entry m (first_outcome S (version_of S s (slot_held S g e))) refl)
 
-    pub mark_refused : Outcome (call.Call.rescale_mark s) ws (call.Answer.refused (refusal_of r)) ws
-    mark_refused = version_refused S g refl (named-first s []) e
+      pub last_told : Finds ws i f lookup.last → Outcome (call.Call.last s) ws (entry_answer y) ws
+      last_told m =
+          rw (told, entry_or Absent call.Answer.entry f)
+          (by_found S g e calls.Refusal.absent call.Answer.entry m (last_outcome S (version_of S s (slot_held S g e))) refl)
 
-  module _ {i : ℕ} (e : x ≡ Entered.Root i) where
-    pub size_told : {n z : ℕ} → n ≡ nodes ws → z ≡ slot_size n ws s → Outcome (call.Call.size s) ws (call.Answer.number z) ws
-    size_told {n} {z} m q = rw (q ∙ ap (λ (k : ℕ). slot_size k ws s) m) (size_outcome S (version_of S s (slot_held S g e)))
-
-    module _ {f : Found} where
-      module _ {k : ℕ} (m : Finds ws i f (lookup.get k)) where
-        get_outcome_found : {y : Found} → f ≡ y → Outcome (call.Call.get s k) ws (or_refused calls.Refusal.absent value_of (found_of y)) ws
-        get_outcome_found = by_found S g e calls.Refusal.absent value_of m (get_outcome S (version_of S s (slot_held S g e)) k)
-
-        pub get_value : {y : Entry} → f ≡ At y → Outcome (call.Call.get s k) ws (call.Answer.value y.value) ws
-        get_value z = get_outcome_found z
-
-        pub get_absent : f ≡ Nothing → Outcome (call.Call.get s k) ws (call.Answer.refused calls.Refusal.absent) ws
-        get_absent z = get_outcome_found z
-
-      module _ (m : Finds ws i f lookup.first) where
-        first_found : {y : Found} → f ≡ y → Outcome (call.Call.first s) ws (or_refused calls.Refusal.absent call.Answer.entry (found_of y)) ws
-        first_found = by_found S g e calls.Refusal.absent call.Answer.entry m (first_outcome S (version_of S s (slot_held S g e)))
-
-        pub first_entry : {y : Entry} → f ≡ At y → Outcome (call.Call.first s) ws (call.Answer.entry (entry_of y)) ws
-        first_entry z = first_found z
-
-        pub first_absent : f ≡ Nothing → Outcome (call.Call.first s) ws (call.Answer.refused calls.Refusal.absent) ws
-        first_absent z = first_found z
-
-      module _ (m : Finds ws i f lookup.last) where
-        last_found : {y : Found} → f ≡ y → Outcome (call.Call.last s) ws (or_refused calls.Refusal.absent call.Answer.entry (found_of y)) ws
-        last_found = by_found S g e calls.Refusal.absent call.Answer.entry m (last_outcome S (version_of S s (slot_held S g e)))
-
-        pub last_entry : {y : Entry} → f ≡ At y → Outcome (call.Call.last s) ws (call.Answer.entry (entry_of y)) ws
-        last_entry z = last_found z
-
-        pub last_absent : f ≡ Nothing → Outcome (call.Call.last s) ws (call.Answer.refused calls.Refusal.absent) ws
-        last_absent z = last_found z
-
-      -- Whether the one tag of the mark was found.
-      module _ (m : Finds ws i f (lookup.get rescale_slope)) where
-        mark_found : {y : Found} → f ≡ y → Outcome (call.Call.rescale_mark s) ws (call.Answer.truth (is_some (found_of y) || false)) ws
-        mark_found {y} z =
-            let v = version_of S s (slot_held S g e) in
-            rescale_mark_outcome S v (is_some (found_of y) || false)
-            (ap (λ (o : Option trees.Entry). is_some o || false)
-            (sym (get_find rescale_slope (slot_tree S g e) (version_fine S v).ordered) ∙ sym (found_in S g e f (lookup.get rescale_slope) m) ∙ ap found_of z))
-
-        pub mark_yes : {y : Entry} → f ≡ At y → Outcome (call.Call.rescale_mark s) ws (call.Answer.truth true) ws
-        mark_yes z = mark_found z
-
-        pub mark_no : f ≡ Nothing → Outcome (call.Call.rescale_mark s) ws (call.Answer.truth false) ws
-        mark_no z = mark_found z
+    -- Whether the one tag of the mark was found.
+    pub mark_told : Finds ws i f (lookup.get rescale_slope) → Outcome (call.Call.rescale_mark s) ws (call.Answer.truth (is_some f)) ws
+    mark_told m =
+        let v = version_of S s (slot_held S g e) in
+        rescale_mark_outcome S v (is_some f)
+        (ap (λ (o : math.Option trees.Entry). listing.is_some o || false)
+        (sym (get_find rescale_slope (slot_tree S g e) (version_fine S v).ordered) ∙ sym (found_in S g e f (lookup.get rescale_slope) m))
+        ∙ same_some f)
+      where
+        same_some : (f : Option Entry) → listing.is_some (found_of f) || false ≡ is_some f
+        same_some (Some y) = refl
+        same_some None = refl

@@ -7,80 +7,50 @@ ghost use Rattle.calls.specs.Call.{Call};
 ghost use Rattle.calls.specs.Outcome.{Outcome};
 ghost use Rattle.answers.specs.Answers.{number_answer, value_answer, entry_answer, truth_answer};
 
-use answers::{Entered, EntryAnswer, NumberAnswer, Refusal, TruthAnswer, ValueAnswer, enter};
-use arena::{nodes_of, slot_size};
-use lookup::Found;
+use answers::{Refusal, enter};
+use arena::{Entry, nodes_of, slot_size};
 
 // RULES 2.2: (0028,1053) Rescale Slope.
 const RESCALE_SLOPE: u32 = 2625619;
 
-pub fn size(ws: &[u32], s: u32) -> NumberAnswer
+pub fn size(ws: &[u32], s: u32) -> Result<u32, Refusal>
     requires { Sound ws.now }
     ensures { Outcome (Call.size s) ws.now (number_answer result) ws.now }
 {
-    match enter(ws, s) {
-        Entered::Refused(r) => NumberAnswer::Refused(r),
-        Entered::Root(i) => NumberAnswer::Number(slot_size(ws, nodes_of(ws), s)),
-    }
+    enter(ws, s)?;
+    Ok(slot_size(ws, nodes_of(ws), s))
 }
 
-pub fn get(ws: &[u32], s: u32, key: u32) -> ValueAnswer
+pub fn get(ws: &[u32], s: u32, key: u32) -> Result<u32, Refusal>
     requires { Sound ws.now }
     ensures { Outcome (Call.get s key) ws.now (value_answer result) ws.now }
 {
-    match enter(ws, s) {
-        Entered::Refused(r) => ValueAnswer::Refused(r),
-        Entered::Root(i) => {
-            let Found::At(e) = lookup::get(ws, i, key) else {
-                return ValueAnswer::Refused(Refusal::Absent);
-            };
-            ValueAnswer::Value(e.value)
-        },
-    }
+    let i = enter(ws, s)?;
+    let e = lookup::get(ws, i, key).ok_or(Refusal::Absent)?;
+    Ok(e.value)
 }
 
-pub fn first(ws: &[u32], s: u32) -> EntryAnswer
+pub fn first(ws: &[u32], s: u32) -> Result<Entry, Refusal>
     requires { Sound ws.now }
     ensures { Outcome (Call.first s) ws.now (entry_answer result) ws.now }
 {
-    match enter(ws, s) {
-        Entered::Refused(r) => EntryAnswer::Refused(r),
-        Entered::Root(i) => {
-            let Found::At(e) = lookup::first(ws, i) else {
-                return EntryAnswer::Refused(Refusal::Absent);
-            };
-            EntryAnswer::Entry(e)
-        },
-    }
+    let i = enter(ws, s)?;
+    lookup::first(ws, i).ok_or(Refusal::Absent)
 }
 
-pub fn last(ws: &[u32], s: u32) -> EntryAnswer
+pub fn last(ws: &[u32], s: u32) -> Result<Entry, Refusal>
     requires { Sound ws.now }
     ensures { Outcome (Call.last s) ws.now (entry_answer result) ws.now }
 {
-    match enter(ws, s) {
-        Entered::Refused(r) => EntryAnswer::Refused(r),
-        Entered::Root(i) => {
-            let Found::At(e) = lookup::last(ws, i) else {
-                return EntryAnswer::Refused(Refusal::Absent);
-            };
-            EntryAnswer::Entry(e)
-        },
-    }
+    let i = enter(ws, s)?;
+    lookup::last(ws, i).ok_or(Refusal::Absent)
 }
 
 // RULES 8.4: yes exactly when the version holds (0028,1053).
-pub fn rescale_mark(ws: &[u32], s: u32) -> TruthAnswer
+pub fn rescale_mark(ws: &[u32], s: u32) -> Result<bool, Refusal>
     requires { Sound ws.now }
     ensures { Outcome (Call.rescale_mark s) ws.now (truth_answer result) ws.now }
 {
-    match enter(ws, s) {
-        Entered::Refused(r) => TruthAnswer::Refused(r),
-        Entered::Root(i) => {
-            let Found::At(_) = lookup::get(ws, i, RESCALE_SLOPE) else {
-                return TruthAnswer::Truth(false);
-            };
-            TruthAnswer::Truth(true)
-        },
-    }
+    let i = enter(ws, s)?;
+    Ok(lookup::get(ws, i, RESCALE_SLOPE).is_some())
 }

@@ -1,15 +1,17 @@
-use Rattle.answers.proofs.Entries.{rooted}
-use Rattle.reading.proofs.Answering.{get_refused, get_absent, get_value}
+use Rattle.std.proofs.Common.{refl, []}
+use Rattle.calls.specs.Call.{Answer}
+use Rattle.answers.proofs.Entries.{named-first, version_passed, rooted}
+use Rattle.reading.proofs.Answering.{get_value, get_absent}
 use Rattle.reading.proofs.get.Goals as goal
 
+pub returns-in_err-i : goal.returns-in_err-i
+returns-in_err-i c = version_passed Answer.value c.requires refl (named-first c.args.s []) c.in_err-i.ensures c.from_residual.result c.from_residual.ensures.1
+
 pub get-requires : goal.get-requires
-get-requires c = search rooted
+get-requires c = rooted c.requires c.enter.ensures c.in_ok-i.was
 
-pub returns-in_default : goal.returns-in_default
-returns-in_default c = search get_absent
+pub returns-in_err-e : goal.returns-in_err-e
+returns-in_err-e c = get_absent c.requires c.enter.ensures c.in_ok-i.was c.get.ensures c.ok_or.ensures.value c.in_err-e.was c.from_residual-in_err-e.result c.from_residual-in_err-e.ensures.1
 
-pub returns-in-Refused : goal.returns-in-Refused
-returns-in-Refused c = search get_refused
-
-pub returns-in-At : goal.returns-in-At
-returns-in-At c = search get_value
+pub returns : goal.returns
+returns c = get_value c.requires c.enter.ensures c.in_ok-i.was c.get.ensures c.ok_or.ensures.ok_part c.in_ok-e.was

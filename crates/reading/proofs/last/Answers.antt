@@ -1,16 +1,15 @@
-use Rattle.answers.proofs.Entries.{rooted}
-use Rattle.reading.proofs.Answering.{last_refused, last_absent, last_entry}
+use Rattle.std.proofs.Common.{refl, []}
+use Rattle.calls.specs.Call.{Answer}
+use Rattle.arena.specs.Nodes.{entry_of}
+use Rattle.answers.proofs.Entries.{named-first, version_passed, rooted}
+use Rattle.reading.proofs.Answering.{last_told}
 use Rattle.reading.proofs.last.Goals as goal
 
+pub returns-in_err-i : goal.returns-in_err-i
+returns-in_err-i c = version_passed (λ e. Answer.entry (entry_of e)) c.requires refl (named-first c.args.s []) c.in_err-i.ensures c.from_residual.result c.from_residual.ensures.1
+
 pub last-requires : goal.last-requires
-last-requires c = search rooted
+last-requires c = rooted c.requires c.enter.ensures c.in_ok-i.was
 
-pub returns-in_default : goal.returns-in_default
-returns-in_default c = search last_absent
-
-pub returns-in-Refused : goal.returns-in-Refused
-returns-in-Refused c = search last_refused
-
--- A declaration of its own, above the whole: were the other end looked up, ABSENT would still be right and the entry would not.
-pub returns-in-At : goal.returns-in-At
-returns-in-At c = search last_entry
+pub returns : goal.returns
+returns c = last_told c.requires c.enter.ensures c.in_ok-i.was c.ok_or.ensures.value c.last.ensures

@@ -1,15 +1,11 @@
-use Rattle.answers.proofs.Entries.{header_inside, held_inside}
-use Rattle.reading.proofs.Answering.{size_refused, size_told}
+use Rattle.std.proofs.Common.{refl, []}
+use Rattle.calls.specs.Call.{Answer}
+use Rattle.answers.proofs.Entries.{named-first, version_passed}
+use Rattle.reading.proofs.Answering.{size_told}
 use Rattle.reading.proofs.size.Goals as goal
 
-pub nodes_of-requires : goal.nodes_of-requires
-nodes_of-requires c = search header_inside
+pub returns-in_err-enter : goal.returns-in_err-enter
+returns-in_err-enter c = version_passed Answer.number c.requires refl (named-first c.args.s []) c.in_err-enter.ensures c.from_residual.result c.from_residual.ensures.1
 
-pub slot_size-requires : goal.slot_size-requires
-slot_size-requires c = search held_inside
-
-pub returns-in-Refused : goal.returns-in-Refused
-returns-in-Refused c = search size_refused
-
-pub returns-in-Root : goal.returns-in-Root
-returns-in-Root c = search size_told
+pub returns : goal.returns
+returns c = size_told c.requires c.enter.ensures c.in_ok-enter.was c.nodes_of.ensures c.slot_size.ensures
