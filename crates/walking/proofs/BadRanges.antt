@@ -3,11 +3,11 @@ use mathlib.Core.Path.{◌≡◌}
 use Prim.Native.Nat.{ℕ}
 use lib.Dec.{ltb, leb}
 use Rattle.trees.specs.Range.{is_bad_range}
-use Rattle.ranges.specs.declared.Bound.{Bound}
-use Rattle.ranges.specs.declared.Bound.TheVariants.{Included, Excluded}
+use Rattle.std.specs.declared.ops.Bound.{Bound}
+use Rattle.std.specs.declared.ops.Bound.TheVariants.{Included, Excluded}
 use Rattle.ranges.specs.Ranges.{bound_of}
 
-module _ {p q : Bound} {a b : ℕ} where
+module _ {p q : Bound ℕ} {a b : ℕ} where
   pub from_above : p ≡ Included a → q ≡ Included b → ltb b a ≡ is_bad_range (bound_of p) (bound_of q)
   from_above y z = rw (y, z)
 

@@ -3,17 +3,20 @@
 #![tactic(auto)]
 
 ghost use Rattle.std.specs.Prelude.{◌≡◌};
-ghost use Rattle.trees.specs.Range.{is_bad_range, front as atFront, back as atBack};
+ghost use Rattle.trees.specs.Range.{is_bad_range};
 ghost use Rattle.words.specs.Sound.{Sound};
+ghost use Rattle.lookup.specs.Ends.{end_of};
 ghost use Rattle.ranges.specs.Ranges.{bound_of};
 ghost use Rattle.calls.specs.Call.{Call};
 ghost use Rattle.calls.specs.Outcome.{Outcome};
 ghost use Rattle.answers.specs.Answers.{entry_answer};
-ghost use Rattle.walking.specs.Walks.{walk_of, stepped};
+ghost use Rattle.walking.specs.Walks.{walk_of};
 
-use answers::{Entered, EntryAnswer, Refusal, enter};
-use lookup::Found;
-use ranges::{Bound, Range};
+use answers::{Refusal, enter};
+use arena::Entry;
+use lookup::End;
+use ranges::Range;
+use std::ops::Bound;
 
 // RULES 7.1: what the caller keeps of a walk, by value.
 #[derive(Clone, Copy)]
@@ -23,7 +26,7 @@ pub struct Walk {
 }
 
 // RULES 7.5: start above end, or equal and both excluded.
-fn bad_range(start: Bound, end: Bound) -> bool
+fn is_bad_range(start: Bound<u32>, end: Bound<u32>) -> bool
     ensures { result ≡ is_bad_range (bound_of start) (bound_of end) }
 {
     match start {
@@ -41,48 +44,15 @@ fn bad_range(start: Bound, end: Bound) -> bool
     }
 }
 
-// What a step answers by the entry that its descent found.
-fn step_answer(f: Found) -> EntryAnswer
-    ensures { entry_answer result ≡ stepped f }
-{
-    match f {
-        Found::At(e) => EntryAnswer::Entry(e),
-        Found::Nothing => EntryAnswer::Refused(Refusal::End),
-    }
-}
-
-pub fn step_front(ws: &[u32], w: Walk) -> EntryAnswer
+// A step of the walk at that end.
+pub fn step(ws: &[u32], w: Walk, end: End) -> Result<Entry, Refusal>
     requires { Sound ws.now }
-    ensures { Outcome (Call.step atFront (walk_of w)) ws.now (entry_answer result) ws.now }
+    ensures { Outcome (Call.step (end_of end) (walk_of w)) ws.now (entry_answer result) ws.now }
 {
     let range = w.range;
-    let start = range.start;
-    let end = range.end;
-    match enter(ws, w.slot) {
-        Entered::Refused(r) => EntryAnswer::Refused(r),
-        Entered::Root(i) => {
-            if bad_range(start, end) {
-                return EntryAnswer::Refused(Refusal::BadRange);
-            }
-            step_answer(ranges::step_front(ws, i, range))
-        },
+    let i = enter(ws, w.slot)?;
+    if is_bad_range(range.start, range.end) {
+        return Err(Refusal::BadRange);
     }
-}
-
-pub fn step_back(ws: &[u32], w: Walk) -> EntryAnswer
-    requires { Sound ws.now }
-    ensures { Outcome (Call.step atBack (walk_of w)) ws.now (entry_answer result) ws.now }
-{
-    let range = w.range;
-    let start = range.start;
-    let end = range.end;
-    match enter(ws, w.slot) {
-        Entered::Refused(r) => EntryAnswer::Refused(r),
-        Entered::Root(i) => {
-            if bad_range(start, end) {
-                return EntryAnswer::Refused(Refusal::BadRange);
-            }
-            step_answer(ranges::step_back(ws, i, range))
-        },
-    }
+    ranges::step(ws, i, range, end).ok_or(Refusal::End)
 }

@@ -1,5 +1,5 @@
 use Rattle.walking.proofs.BadRanges.{from_above, from_excluded, after_above, after_excluded}
-use Rattle.walking.proofs.bad_range.Goals as goal
+use Rattle.walking.proofs.is_bad_range.Goals as goal
 
 pub returns-in-Included-end : goal.returns-in-Included-end
 returns-in-Included-end c = search from_above
