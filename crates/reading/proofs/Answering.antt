@@ -24,8 +24,8 @@ use Rattle.answers.specs.Entering.{Enters}
 use Rattle.answers.proofs.Finding.{slot_held, slot_tree, found_in, by_found, entry_or, absence_passed}
 
 module _ {ws : List ℕ} {s i : ℕ} {x : Result ℕ Refusal} (S : Sound ws) (g : Enters ws s x) (e : x ≡ Ok i) where
-  pub size_told : {n z : ℕ} → n ≡ nodes ws → z ≡ slot_size n ws s → Outcome (call.Call.size s) ws (call.Answer.number z) ws
-  size_told {n} {z} m q = rw (q ∙ ap (λ (k : ℕ). slot_size k ws s) m) (size_outcome S (version_of S s (slot_held S g e)))
+  pub size_told : {n : ℕ} → n ≡ nodes ws → (z : ℕ) → z ≡ slot_size n ws s → Outcome (call.Call.size s) ws (call.Answer.number z) ws
+  size_told {n} m z q = rw (q ∙ ap (λ (k : ℕ). slot_size k ws s) m) (size_outcome S (version_of S s (slot_held S g e)))
 
   module _ {f : Option Entry} where
     module _ {k : ℕ} (m : Finds ws i f (lookup.get k)) where

@@ -30,6 +30,7 @@ pub fn get(ws: &[u32], s: u32, key: u32) -> Result<u32, Refusal>
     Ok(e.value)
 }
 
+#[tactic(auto, using(answers::proofs::Entries::rooted, crate::proofs::Answering::first_told))]
 pub fn first(ws: &[u32], s: u32) -> Result<Entry, Refusal>
     requires { Sound ws.now }
     ensures { Outcome (Call.first s) ws.now (entry_answer result) ws.now }
@@ -38,6 +39,7 @@ pub fn first(ws: &[u32], s: u32) -> Result<Entry, Refusal>
     lookup::first(ws, i).ok_or(Refusal::Absent)
 }
 
+#[tactic(auto, using(answers::proofs::Entries::rooted, crate::proofs::Answering::last_told))]
 pub fn last(ws: &[u32], s: u32) -> Result<Entry, Refusal>
     requires { Sound ws.now }
     ensures { Outcome (Call.last s) ws.now (entry_answer result) ws.now }

@@ -8,4 +8,4 @@ pub returns-in_err-enter : goal.returns-in_err-enter
 returns-in_err-enter c = version_passed Answer.number c.requires refl (named-first c.args.s []) c.in_err-enter.ensures c.from_residual.result c.from_residual.ensures.1
 
 pub returns : goal.returns
-returns c = size_told c.requires c.enter.ensures c.in_ok-enter.was c.nodes_of.ensures c.slot_size.ensures
+returns c = search (size_told c.requires c.enter.ensures c.in_ok-enter.was c.nodes_of.ensures)
