@@ -1,14 +1,13 @@
 -- The outer loop: both sides pass over what is alike.
-use mathlib.Core.Path.{◌≡◌, refl, ap, sym, ◌∙◌}
+use mathlib.Core.Path.{◌≡◌, ap, sym, ◌∙◌}
 use mathlib.Core.Bool.{Bool, true, false}
 use mathlib.Core.List.{List, [], ◌∷◌, ◌++◌, append_assoc}
-use Prim.Native.Nat.{ℕ, ◌<◌}
+use Prim.Native.Nat.{ℕ}
 use native.Mathlib.Omega.{arith}
-use lib.ListN.{length, length-append}
 use Rattle.trees.specs.Tree.{Entry}
-use Rattle.lookup.specs.declared.Found.{Found}
+use Rattle.std.specs.Prelude.{Option}
+use Rattle.arena.specs.declared.Entry as arena
 use Rattle.lookup.specs.Finding.{found_of}
-use Rattle.abreast.specs.declared.Depths.{Depths}
 use Rattle.abreast.specs.declared.Side.{Side}
 use Rattle.abreast.specs.Alike.{alike_heads}
 use Rattle.abreast.specs.Sides.{waiting, ahead, Topped, Stands, Tops, Pops, Meets, Parts}
@@ -27,55 +26,55 @@ beyond : {xs ys zs ts : List Entry} {e : Entry} (us vs : List Entry) → xs ≡ 
 beyond us vs h g k = rw (h, g, k) (simp append_assoc)
 
 -- Two listings, of which the two sides have passed over what is alike.
-pub record Passes (xs ys : List Entry) (ws : List ℕ) (i : ℕ) (a : List ℕ) (p j : ℕ) (b : List ℕ) (q : ℕ) : Type 0 where
-  pub one : Stands ws i a p
-  pub other : Stands ws j b q
+pub record Passes (xs ys : List Entry) (ws : List ℕ) (s t : Side) : Type 0 where
+  pub one : Stands ws s
+  pub other : Stands ws t
   pub alike : List Entry
-  pub one_is : xs ≡ alike ++ ahead ws i a p
-  pub other_is : ys ≡ alike ++ ahead ws j b q
+  pub one_is : xs ≡ alike ++ ahead ws s
+  pub other_is : ys ≡ alike ++ ahead ws t
 
-pub passes_start : {ws : List ℕ} {i : ℕ} {a : List ℕ} {p j : ℕ} {b : List ℕ} {q : ℕ} → Stands ws i a p → Stands ws j b q →
-    Passes (ahead ws i a p) (ahead ws j b q) ws i a p j b q
-passes_start S T = record { one = S; other = T; alike = []; one_is = refl; other_is = refl }
-
-module _ {ws : List ℕ} {i j : ℕ} {a : List ℕ} {p : ℕ} {b : List ℕ} {q : ℕ} {a' b' : List ℕ} {d : Depths} {one other : Found} {r : Bool}
-    (M : Meets ws i j a p b q a' b' d) (h : Tops ws a' d.one one) (g : Tops ws b' d.other other)
+module _ {ws : List ℕ} {s t s' t' : Side} {one other : Option arena.Entry} {r : Bool}
+    (M : Meets ws s t s' t') (h : Tops ws s' one) (g : Tops ws t' other)
     (k : r ≡ alike_heads (found_of one) (found_of other)) where
-  pub passes_end : {xs ys : List Entry} → Passes xs ys ws i a p j b q → r ≡ false → Parts xs ys (record { one = one; other = other })
+  -- What follows on either stack.
+  abbrev pub front : List Entry
+  front = waiting ws s'.stack s'.depth
+
+  abbrev pub back : List Entry
+  back = waiting ws t'.stack t'.depth
+
+  pub passes_end : {xs ys : List Entry} → Passes xs ys ws s t → r ≡ false → Parts xs ys (record { one = one; other = other })
   passes_end P e =
       record {
         alike = P.alike ++ M.alike;
-        one = waiting ws a' d.one;
-        other = waiting ws b' d.other;
-        one_is = P.one_is ∙ ap (λ (l : List Entry). P.alike ++ l) M.one_is ∙ sym (append_assoc P.alike M.alike (waiting ws a' d.one));
-        other_is = P.other_is ∙ ap (λ (l : List Entry). P.alike ++ l) M.other_is ∙ sym (append_assoc P.alike M.alike (waiting ws b' d.other));
+        one = front;
+        other = back;
+        one_is = P.one_is ∙ ap (λ (l : List Entry). P.alike ++ l) M.one_is ∙ sym (append_assoc P.alike M.alike front);
+        other_is = P.other_is ∙ ap (λ (l : List Entry). P.alike ++ l) M.other_is ∙ sym (append_assoc P.alike M.alike back);
         one_first = h.first;
         other_first = g.first;
         apart = sym k ∙ e;
       }
 
   module _ (e : r ≡ true) where
-    both : Same (waiting ws a' d.one) (waiting ws b' d.other)
-    both = same_heads (waiting ws a' d.one) (waiting ws b' d.other) (rw (← h.first, ← g.first) (sym k ∙ e))
+    both : Same front back
+    both = same_heads front back (rw (← h.first, ← g.first) (sym k ∙ e))
 
-    pub one_topped : Topped ws a' d.one
-    one_topped = topped M.one (no_top ws a' d.one both.one_is)
+    pub one_topped : Topped ws s'.stack s'.depth
+    one_topped = topped M.one (no_top ws s'.stack s'.depth both.one_is)
 
-    pub other_topped : Topped ws b' d.other
-    other_topped = topped M.other (no_top ws b' d.other both.other_is)
+    pub other_topped : Topped ws t'.stack t'.depth
+    other_topped = topped M.other (no_top ws t'.stack t'.depth both.other_is)
 
-    module _ {x : Side} (X : Pops ws a' d.one x) where
-      one_next : waiting ws a' d.one ≡ both.entry ∷ ahead ws x.link a' x.depth
+    module _ {x : Side} (X : Pops ws s' x) where
+      one_next : front ≡ both.entry ∷ ahead ws x
       one_next = let z = X.waiting_is in let y = both.one_is in cc
 
-      pub passes_falls : length (ahead ws x.link a' x.depth) < length (ahead ws i a p)
-      passes_falls = rw (M.one_is, one_next) (rw (length-append M.alike (both.entry ∷ _)) (omega arith))
-
-      module _ {y : Side} (Y : Pops ws b' d.other y) where
-        other_next : waiting ws b' d.other ≡ both.entry ∷ ahead ws y.link b' y.depth
+      module _ {y : Side} (Y : Pops ws t' y) where
+        other_next : back ≡ both.entry ∷ ahead ws y
         other_next = let z = Y.waiting_is in let y = both.other_is in cc
 
-        pub passes_more : {xs ys : List Entry} → Passes xs ys ws i a p j b q → Passes xs ys ws x.link a' x.depth y.link b' y.depth
+        pub passes_more : {xs ys : List Entry} → Passes xs ys ws s t → Passes xs ys ws x y
         passes_more P =
             record {
               one = X.stands;

@@ -1,14 +1,13 @@
 -- A side of the walk: a link and a stack of node numbers, and what they have still to come.
-use Rattle.std.specs.Prelude.{◌≡◌, false, List, [], ◌∷◌, ◌++◌, ℕ, zero, suc, ◌-◌, ◌≤◌, ◌<◌, length, get_or}
+use Rattle.std.specs.Prelude.{◌≡◌, false, List, [], ◌∷◌, ◌++◌, ℕ, zero, suc, ◌-◌, ◌≤◌, ◌<◌, length, get_or, Option}
 use Rattle.trees.specs.Tree.{Entry, Tree, listing}
 use Rattle.trees.specs.Listing.{first_of}
 use Rattle.words.specs.Layout.{entry, left, right, max_height}
 use Rattle.words.specs.Reads.{Reads}
 use Rattle.arena.specs.Nodes.{NodeInside}
-use Rattle.lookup.specs.declared.Found.{Found}
+use Rattle.arena.specs.declared.Entry as arena
 use Rattle.lookup.specs.Finding.{found_of, Rooted}
 use Rattle.abreast.specs.declared.Side.{Side}
-use Rattle.abreast.specs.declared.Depths.{Depths}
 use Rattle.abreast.specs.declared.Heads.{Heads}
 use Rattle.abreast.specs.Alike.{alike_heads}
 
@@ -29,8 +28,8 @@ waiting ws a zero = []
 waiting ws a (suc p) = entry ws (get_or a p 0) ∷ (listed max_height ws (right ws (get_or a p 0)) ++ waiting ws a p)
 
 -- What a side has still to come.
-unfoldable pub ahead : List ℕ → ℕ → List ℕ → ℕ → List Entry
-ahead ws i a p = listed max_height ws i ++ waiting ws a p
+unfoldable pub ahead : List ℕ → Side → List Entry
+ahead ws s = listed max_height ws s.link ++ waiting ws s.stack s.depth
 
 -- The first p numbers of a stack are nodes with right parts, the deeper the lower.
 pub record Stacked (ws a : List ℕ) (p : ℕ) : Type 0 where
@@ -45,34 +44,40 @@ pub record Topped (ws a : List ℕ) (p : ℕ) : Type 0 where
   pub high : 1 ≤ p
 
 -- A side can go on: its link is low enough for what is free on its stack.
-pub record Stands (ws : List ℕ) (i : ℕ) (a : List ℕ) (p : ℕ) : Type 0 where
-  pub rooted : Rooted ws i (max_height - p)
-  pub stacked : Stacked ws a p
+pub record Stands (ws : List ℕ) (s : Side) : Type 0 where
+  pub rooted : Rooted ws s.link (max_height - s.depth)
+  pub stacked : Stacked ws s.stack s.depth
+
+-- A side at the link i, with an empty stack.
+pub record Starts (i : ℕ) (s : Side) : Type 0 where
+  pub link_is : s.link ≡ i
+  pub long : length s.stack ≡ stack_numbers
+  pub empty : s.depth ≡ 0
 
 -- A step down changes nothing of what is ahead, and at a node the stack grows.
-pub record Sinks (ws : List ℕ) (i : ℕ) (a : List ℕ) (p : ℕ) (b : List ℕ) (r : Side) : Type 0 where
-  pub stands : Stands ws r.link b r.depth
-  pub same_ahead : ahead ws r.link b r.depth ≡ ahead ws i a p
-  pub deeper : p ≤ r.depth
-  pub grows : (i ≡ 0 → ⊥) → p < r.depth
+pub record Sinks (ws : List ℕ) (s t : Side) : Type 0 where
+  pub stands : Stands ws t
+  pub same_ahead : ahead ws t ≡ ahead ws s
+  pub deeper : s.depth ≤ t.depth
+  pub grows : (s.link ≡ 0 → ⊥) → s.depth < t.depth
 
--- r is what comes next on a stack.
-pub record Tops (ws a : List ℕ) (p : ℕ) (r : Found) : Type 0 where
-  pub first : found_of r ≡ first_of (waiting ws a p)
+-- r is what comes next on a side's stack.
+pub record Tops (ws : List ℕ) (s : Side) (r : Option arena.Entry) : Type 0 where
+  pub first : found_of r ≡ first_of (waiting ws s.stack s.depth)
 
 -- A side once the top's entry is passed.
-pub record Pops (ws a : List ℕ) (p : ℕ) (r : Side) : Type 0 where
-  pub stands : Stands ws r.link a r.depth
+pub record Pops (ws : List ℕ) (s t : Side) : Type 0 where
+  pub stands : Stands ws t
   pub passed : Entry
-  pub waiting_is : waiting ws a p ≡ passed ∷ ahead ws r.link a r.depth
+  pub waiting_is : waiting ws s.stack s.depth ≡ passed ∷ ahead ws t
 
 -- Both sides begin alike, and what follows is on their stacks.
-pub record Meets (ws : List ℕ) (i j : ℕ) (a : List ℕ) (p : ℕ) (b : List ℕ) (q : ℕ) (a' b' : List ℕ) (r : Depths) : Type 0 where
-  pub one : Stacked ws a' r.one
-  pub other : Stacked ws b' r.other
+pub record Meets (ws : List ℕ) (s t s' t' : Side) : Type 0 where
+  pub one : Stacked ws s'.stack s'.depth
+  pub other : Stacked ws t'.stack t'.depth
   pub alike : List Entry
-  pub one_is : ahead ws i a p ≡ alike ++ waiting ws a' r.one
-  pub other_is : ahead ws j b q ≡ alike ++ waiting ws b' r.other
+  pub one_is : ahead ws s ≡ alike ++ waiting ws s'.stack s'.depth
+  pub other_is : ahead ws t ≡ alike ++ waiting ws t'.stack t'.depth
 
 -- Two listings that begin alike, and the first entries of what follows, which are not the same.
 pub record Parts (xs ys : List Entry) (r : Heads) : Type 0 where

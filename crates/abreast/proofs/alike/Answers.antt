@@ -1,5 +1,0 @@
-use Rattle.abreast.proofs.Entries.{alike_both}
-use Rattle.abreast.proofs.alike.Goals as goal
-
-pub returns : goal.returns
-returns c = search alike_both
