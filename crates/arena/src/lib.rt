@@ -52,7 +52,7 @@ const ROOT_WORD: usize = 8;
 const SIZE_WORD: usize = 9;
 
 // A tag and the position of its value.
-#[derive(Clone, Copy, PartialEq, Eq)]
+#[derive(Clone, Copy, PartialEq, Eq, PartialOrd, Ord)]
 pub struct Entry {
     pub key: u32,
     pub value: u32,

@@ -1,15 +1,21 @@
-use Rattle.answers.proofs.Entries.{rooted}
-use Rattle.comparing.proofs.Answering.{compare_refused, compare_other_refused, compare_told}
+use Rattle.std.proofs.Common.{refl, [], ◌∷◌}
+use Rattle.calls.specs.Call.{Answer}
+use Rattle.answers.specs.Answers.{sign_of}
+use Rattle.answers.proofs.Entries.{named-first, named_second, version_passed, rooted}
+use Rattle.comparing.proofs.Answering.{compare_told}
 use Rattle.comparing.proofs.compare.Goals as goal
 
+pub returns-in_err-i : goal.returns-in_err-i
+returns-in_err-i c =
+    version_passed (λ d. Answer.sign (sign_of d)) c.requires refl (named-first c.args.s (c.args.t ∷ [])) c.in_err-i.ensures c.from_residual.result c.from_residual.ensures.1
+
+pub returns-in_err-j : goal.returns-in_err-j
+returns-in_err-j c =
+    version_passed (λ d. Answer.sign (sign_of d)) c.requires refl (named_second c.args.s c.args.t) c.in_err-j.ensures c.from_residual-in_err-j.result c.from_residual-in_err-j.ensures.1
+
 pub compare_roots-requires : goal.compare_roots-requires
-compare_roots-requires c = search rooted
+compare_roots-requires c =
+    record { rooted = rooted c.requires c.enter.ensures c.in_ok-i.was; rooted_other = rooted c.requires c.enter-2.ensures c.in_ok-j.was }
 
-pub returns-in-Refused : goal.returns-in-Refused
-returns-in-Refused c = search compare_refused
-
-pub returns-in-Refused-enter : goal.returns-in-Refused-enter
-returns-in-Refused-enter c = search compare_other_refused
-
-pub returns-in-Root-enter : goal.returns-in-Root-enter
-returns-in-Root-enter c = search compare_told
+pub returns : goal.returns
+returns c = compare_told c.requires c.enter.ensures c.in_ok-i.was c.enter-2.ensures c.in_ok-j.was c.compare_roots.ensures
