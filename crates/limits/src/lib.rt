@@ -20,30 +20,12 @@ fn arena_words(n: u32, v: u32) -> usize
 pub fn fits(long: usize, n: u32, v: u32) -> bool
     ensures { Decides result (Limits n v long) }
 {
-    if n == 0 {
-        return false;
-    }
-    if MAX_NODES < n {
-        return false;
-    }
-    if v == 0 {
-        return false;
-    }
-    if MAX_SLOTS < v {
-        return false;
-    }
-    if long != arena_words(n, v) {
-        return false;
-    }
-    true
+    n != 0 && n <= MAX_NODES && v != 0 && v <= MAX_SLOTS && long == arena_words(n, v)
 }
 
 // The same of the numbers that the arena records.
 pub fn within_limits(ws: &[u32]) -> bool
     ensures { Decides result (Within ws.now) }
 {
-    if ws.len() < HEADER_WORDS {
-        return false;
-    }
-    fits(ws.len(), nodes_of(ws), slots_of(ws))
+    HEADER_WORDS <= ws.len() && fits(ws.len(), nodes_of(ws), slots_of(ws))
 }

@@ -6,37 +6,31 @@ use Prim.Native.Nat.{ℕ, ◌-◌, ◌*◌, ◌≤◌, ◌<◌}
 use native.Mathlib.Omega.{arith}
 use native.Mathlib.Decide.{dec_lt}
 use lib.ListN.{length, get_or, replicate, length-replicate, get_or-replicate, get_or-eq_default}
+use Rattle.std.specs.Prelude.{Option, Some, None, is_some}
 use Rattle.words.specs.Layout.{nodes}
-use Rattle.words.specs.Sound as words
+use Rattle.words.specs.Sound.{Sound}
 use Rattle.soundness_laws.specs.Answer.{Answers, Decides}
 use Rattle.soundness_laws.specs.Within.{Within}
-use Rattle.soundness_laws.specs.Ways.{stopped}
 use Rattle.soundness_laws.specs.Queue.{Blank, Onward}
 use Rattle.soundness_laws.specs.Whole.{Whole, SoundWith}
-use Rattle.soundness_laws.proofs.Saying.{say_yes, say_no, heard_yes, heard_no}
+use Rattle.soundness_laws.proofs.Saying.{say_yes, say_no, heard_yes, heard_no, gone_on}
 use Rattle.soundness.specs.Verdict.{Verdict, Scratch}
-use Rattle.soundness.specs.declared.Tested.{Tested}
-use Rattle.soundness.specs.declared.Tested.TheVariants.{Sound, Unsound}
 
--- The first half answers k: it stopped, or k nodes are live.
-module _ (ws queue : List ℕ) (k : ℕ) (a : Onward ws k (Whole ws queue k)) where
-  pub no_queue : (r : Tested) → r ≡ Unsound → k ≡ stopped → Verdict ws r
-  no_queue r z e = rw z (a.stop e)
+-- The first half says that k nodes are live.
+module _ (ws queue : List ℕ) (k : ℕ) (a : Onward ws (Some k) (Whole ws queue)) where
+  pub queue_whole : Whole ws queue k
+  queue_whole = gone_on a
 
-  module _ (g : k ≡ stopped → ⊥) where
-    pub queue_whole : Whole ws queue k
-    queue_whole = a.on g
+  pub live_short : (n : ℕ) → n ≡ nodes ws → k ≤ n
+  live_short n en = omega (arith, queue_whole.short)
 
-    pub live_short : (n : ℕ) → n ≡ nodes ws → k ≤ n
-    live_short n en = omega (arith, queue_whole.short)
+  -- The second half answers b.
+  module _ (b : Bool) (d : Answers b (SoundWith ws (nodes ws - k)) (Sound ws → ⊥)) where
+    pub no_versions : not b ≡ true → Verdict ws None
+    no_versions e = heard_no b d e
 
-    -- The second half answers b.
-    module _ (b : Bool) (d : Answers b (SoundWith ws (nodes ws - k)) (words.Sound ws → ⊥)) where
-      pub no_versions : (r : Tested) → r ≡ Unsound → not b ≡ true → Verdict ws r
-      no_versions r z e = rw z (heard_no b d e)
-
-      pub both_right : not b ≡ false → (n : ℕ) → n ≡ nodes ws → (r : Tested) → r ≡ Sound (n - k) → Verdict ws r
-      both_right e n en r z = let w = heard_yes b d e in rw z (w.0, w.1 ∙ sym (ap (λ (m : ℕ). m - k) en))
+    pub both_right : not b ≡ false → (n : ℕ) → n ≡ nodes ws → Verdict ws (Some (n - k))
+    both_right e n en = let w = heard_yes b d e in (w.0, w.1 ∙ sym (ap (λ (m : ℕ). m - k) en))
 
 -- Fresh arrays are scratch enough.
 replicate_blank : (m : ℕ) → Blank (replicate {A = ℕ} m 0)
@@ -46,16 +40,14 @@ replicate_blank m = record { zeros = λ x. go x (dec_lt x m) }
     go x (yes h) = get_or-replicate {A = ℕ} m x 0 0 h
     go x (no h) = get_or-eq_default {A = ℕ} (replicate m 0) 0 (omega (arith, length-replicate {A = ℕ} m 0))
 
-pub fresh_scratch : (k : ℕ) (ws : List ℕ) → Within ws × (nodes ws < k) → Scratch ws (replicate k 0) (replicate (2 * k) 0) (replicate k 0)
-fresh_scratch k ws w =
-    let room : nodes ws < length (replicate {A = ℕ} k 0) = omega (arith, length-replicate {A = ℕ} k 0, w.1) in
+pub fresh_scratch : (k : ℕ) (ws : List ℕ) → Within ws → nodes ws < k → (e : ℕ) → e ≡ 2 * k → Scratch ws (replicate k 0) (replicate e 0) (replicate k 0)
+fresh_scratch k ws w h e ee =
+    let room : nodes ws < length (replicate {A = ℕ} k 0) = omega (arith, length-replicate {A = ℕ} k 0) in
     record {
-      fresh = record { within = w.0; room = room; blank = replicate_blank k; space = room };
-      room = record { memo_room = room; ends_room = omega (arith, length-replicate {A = ℕ} (2 * k) 0, w.1) };
+      fresh = record { within = w; room = room; blank = replicate_blank k; space = room };
+      room = record { memo_room = room; ends_room = omega (arith, length-replicate {A = ℕ} e 0) };
     }
 
-pub verdict_yes : (ws : List ℕ) (r : Tested) (f : ℕ) → Verdict ws r → r ≡ Sound f → Decides true (words.Sound ws)
-verdict_yes ws r f v e = say_yes (rw e at v).0
-
-pub verdict_no : (ws : List ℕ) (r : Tested) → Verdict ws r → r ≡ Unsound → Decides false (words.Sound ws)
-verdict_no ws r v e = say_no (rw e at v)
+pub verdict_some : (ws : List ℕ) (r : Option ℕ) → Verdict ws r → (b : Bool) → b ≡ is_some r → Decides b (Sound ws)
+verdict_some ws (Some f) v b e = rw e (say_yes v.0)
+verdict_some ws None v b e = rw e (say_no v)

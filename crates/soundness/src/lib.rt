@@ -5,123 +5,83 @@
 pub mod packed;
 pub mod settling;
 
-ghost use Rattle.std.specs.Prelude.{◌<◌};
-ghost use Rattle.words.specs.Layout.{nodes};
+ghost use Rattle.std.specs.Prelude.{◌≡◌, ◌+◌, ◌*◌, ◌≤◌, ◌<◌};
+ghost use Rattle.words.specs.Layout.{nodes, max_nodes};
 ghost use Rattle.words.specs.Sound.{Sound};
 ghost use Rattle.soundness_laws.specs.Answer.{Decides};
 ghost use Rattle.soundness_laws.specs.Within.{Within};
-ghost use Rattle.soundness.specs.Verdict.{Verdict, Scratch, small_links, middle_links, large_links};
+ghost use Rattle.soundness.specs.Verdict.{Verdict, Scratch};
 
 use crate::settling::trees_right;
 use arena::nodes_of;
 use limits::within_limits;
-use reaching::{STOPPED, live_nodes};
+use reaching::live_nodes;
 
-// How many links each size of scratch has room for: 0 for none, and the nodes of an arena.
+// How many links each size of scratch has room for, 0 for none and the nodes of an arena; and how
+// many words the two keys of each take.
 const SMALL: usize = 64;
+
+const SMALL_ENDS: usize = 2 * SMALL;
 
 const MIDDLE: usize = 256;
 
+const MIDDLE_ENDS: usize = 2 * MIDDLE;
+
 const LARGE: usize = 2048;
 
-// What the test answers: sound, with the number of free nodes; or not.
-#[derive(Clone, Copy)]
-pub enum Tested {
-    Sound(u32),
-    Unsound,
-}
+const LARGE_ENDS: usize = 2 * LARGE;
 
 // Tests an arena within its limits, on scratch that is large enough. The memo is all 0 at first: it
 // has the names met, then the summaries.
-fn test_on(ws: &[u32], memo: &mut [u32], ends: &mut [u32], queue: &mut [u32]) -> Tested
+fn test_on(ws: &[u32], memo: &mut [u32], ends: &mut [u32], queue: &mut [u32]) -> Option<u32>
     requires { Scratch ws.now memo.old ends.old queue.old }
     ensures { Verdict ws.now result }
 {
-    let live = live_nodes(ws, memo, queue);
-    if live == STOPPED {
-        return Tested::Unsound;
-    }
+    let live = live_nodes(ws, memo, queue)?;
     if !trees_right(ws, queue, live, memo, ends) {
-        return Tested::Unsound;
+        return None;
     }
     let free = nodes_of(ws) - live;
-    Tested::Sound(free)
+    Some(free)
 }
 
-// Tests an arena of fewer than SMALL nodes.
+// Tests an arena of fewer than LINKS nodes. It is not inlined, so that a small arena never pays for
+// a large one's scratch.
 #[inline(never)]
-fn test_small(ws: &[u32]) -> Tested
-    requires { Within ws.now × (nodes ws.now < small_links) }
+fn test_with<const LINKS: usize, const ENDS: usize>(ws: &[u32]) -> Option<u32>
+    requires within { Within ws.now }
+    requires few { nodes ws.now < LINKS }
+    requires no_more { LINKS ≤ max_nodes + 1 }
+    requires two_a_link { ENDS ≡ 2 * LINKS }
     ensures { Verdict ws.now result }
 {
-    let mut memo = [0u32; SMALL];
-    let mut ends = [0u32; 2 * SMALL];
-    let mut queue = [0u32; SMALL];
+    let mut memo = [0u32; LINKS];
+    let mut ends = [0u32; ENDS];
+    let mut queue = [0u32; LINKS];
     test_on(ws, &mut memo, &mut ends, &mut queue)
 }
 
-// Tests an arena of fewer than MIDDLE nodes.
-#[inline(never)]
-fn test_middle(ws: &[u32]) -> Tested
-    requires { Within ws.now × (nodes ws.now < middle_links) }
-    ensures { Verdict ws.now result }
-{
-    let mut memo = [0u32; MIDDLE];
-    let mut ends = [0u32; 2 * MIDDLE];
-    let mut queue = [0u32; MIDDLE];
-    test_on(ws, &mut memo, &mut ends, &mut queue)
-}
-
-// Tests an arena of fewer than LARGE nodes.
-#[inline(never)]
-fn test_large(ws: &[u32]) -> Tested
-    requires { Within ws.now × (nodes ws.now < large_links) }
-    ensures { Verdict ws.now result }
-{
-    let mut memo = [0u32; LARGE];
-    let mut ends = [0u32; 2 * LARGE];
-    let mut queue = [0u32; LARGE];
-    test_on(ws, &mut memo, &mut ends, &mut queue)
-}
-
-// Tests an arena on the least scratch that is large enough, from this size on. The functions with
-// scratch are not inlined, so a small arena never pays for a large one's.
-fn test_from(ws: &[u32], size: u32) -> Tested
-    requires { Within ws.now }
-    ensures { Verdict ws.now result }
-{
-    let n = nodes_of(ws) as usize;
-    if size == 0 {
-        if n < SMALL {
-            return test_small(ws);
-        }
-        return test_from(ws, 1);
-    }
-    if size == 1 {
-        if n < MIDDLE {
-            return test_middle(ws);
-        }
-        return test_from(ws, 2);
-    }
-    test_large(ws)
-}
-
-// Whether the arena is sound, and then the free number.
-pub fn test(ws: &[u32]) -> Tested
+// The number of free nodes, if the arena is sound. It is tested on the least scratch that is large
+// enough.
+pub fn test(ws: &[u32]) -> Option<u32>
     ensures { Verdict ws.now result }
 {
     if !within_limits(ws) {
-        return Tested::Unsound;
+        return None;
     }
-    test_from(ws, 0)
+    let n = nodes_of(ws) as usize;
+    if n < SMALL {
+        return test_with::<SMALL, SMALL_ENDS>(ws);
+    }
+    if n < MIDDLE {
+        return test_with::<MIDDLE, MIDDLE_ENDS>(ws);
+    }
+    test_with::<LARGE, LARGE_ENDS>(ws)
 }
 
 // Whether the arena is sound.
 pub fn sound(ws: &[u32]) -> bool
     ensures { Decides result (Sound ws.now) }
 {
-    match test(ws) {
-        Tested::Sound(_) => true,
-        Tested::Unsound => false,
-    }
+    test(ws).is_some()
 }

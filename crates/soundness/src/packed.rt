@@ -32,22 +32,9 @@ pub fn put(memo: &mut [u32], ends: &mut [u32], i: u32, word: u32, least: u32, gr
 pub fn shapes_fit(color: u32, l: u32, r: u32) -> bool
     ensures { Decides result (ShapesFit color l r) }
 {
-    if BLACK < color {
-        return false;
-    }
-    if l / SHAPE != r / SHAPE {
-        return false;
-    }
-    if color == BLACK {
-        return true;
-    }
-    if l / DARK % 2 == RED {
-        return false;
-    }
-    if r / DARK % 2 == RED {
-        return false;
-    }
-    true
+    color <= BLACK
+        && l / SHAPE == r / SHAPE
+        && (color == BLACK || l / DARK % 2 != RED && r / DARK % 2 != RED)
 }
 
 // The word of its tree.

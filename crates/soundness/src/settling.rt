@@ -100,9 +100,7 @@ fn settle_all(ws: &[u32], queue: &[u32], tail: u32, memo: &mut [u32], ends: &mut
     ensures { Answers result (AllKnown ws.now (briefs memo.new ends.new)) (Sound ws.now → ⊥) }
 {
     put(memo, ends, 0, SHAPE + DARK, 0, 0);
-    let mut k = tail;
-    while 0 < k {
-        k -= 1;
+    for k in (0..tail).rev() {
         let i = queue[k as usize];
         if !settle(ws, i, memo, ends) {
             return false;
@@ -119,19 +117,10 @@ fn slot_right(ws: &[u32], s: u32, memo: &[u32], ends: &[u32]) -> bool
     let n = nodes_of(ws);
     let root = slot_root(ws, n, s);
     if root == NOT_HELD {
-        if slot_size(ws, n, s) != 0 {
-            return false;
-        }
-        return true;
+        return slot_size(ws, n, s) == 0;
     }
     let top = word_of(memo, root);
-    if top / DARK % 2 == RED {
-        return false;
-    }
-    if slot_size(ws, n, s) != top % DARK {
-        return false;
-    }
-    true
+    top / DARK % 2 != RED && slot_size(ws, n, s) == top % DARK
 }
 
 // The same of every slot.
@@ -139,13 +128,10 @@ fn slots_right(ws: &[u32], memo: &[u32], ends: &[u32]) -> bool
     requires { AllKnown ws.now (briefs memo.now ends.now) × Room ws.now memo.now ends.now }
     ensures { Decides result (SlotsRight ws.now) }
 {
-    let v = slots_of(ws);
-    let mut s = 0u32;
-    while s < v {
+    for s in 0..slots_of(ws) {
         if !slot_right(ws, s, memo, ends) {
             return false;
         }
-        s += 1;
     }
     true
 }
@@ -156,11 +142,5 @@ pub fn trees_right(ws: &[u32], queue: &[u32], live: u32, memo: &mut [u32], ends:
     requires { Whole ws.now queue.now live × Room ws.now memo.old ends.old }
     ensures { Answers result (SoundWith ws.now (nodes ws.now - live)) (Sound ws.now → ⊥) }
 {
-    if !settle_all(ws, queue, live, memo, ends) {
-        return false;
-    }
-    if !slots_right(ws, memo, ends) {
-        return false;
-    }
-    true
+    settle_all(ws, queue, live, memo, ends) && slots_right(ws, memo, ends)
 }

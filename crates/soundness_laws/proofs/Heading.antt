@@ -8,6 +8,7 @@ use native.Mathlib.Numerals.{add-one}
 use native.Mathlib.Decide.{ℕ_discrete}
 use lib.ListN.{length, get_or, take}
 use lib.Seq.{take-suc}
+use Rattle.std.specs.Prelude.{Option, Some, None}
 use Rattle.words.specs.Layout.{nodes, slots, left, right, count}
 use Rattle.words.specs.Counting.{same, occ}
 use Rattle.words.specs.Sound.{Reached, from_left, from_right, Sound}
@@ -16,8 +17,8 @@ use Rattle.words.proofs.Counts.{same_eq}
 use Rattle.words.proofs.OwnedLaws.{live_left, live_right}
 use Rattle.words.proofs.SoundOwned.{sound_owned}
 use Rattle.soundness_laws.specs.Within.{Inside}
-use Rattle.soundness_laws.specs.Ways.{stopped}
 use Rattle.soundness_laws.specs.Queue.{met, Queue, Arriving, Arrived, Surplus, Arrives, Past, Heads, Onward}
+use Rattle.soundness_laws.proofs.Saying.{stopping, gone_on, stopped}
 use Rattle.soundness_laws.proofs.Filling.{plus}
 use Rattle.soundness_laws.proofs.Arriving.{occ_take, occ_at, full_once, full_live, queue_asks, queue_as, queue_arrived, arrived_new, arrived_link, arrived_longer, arrived_take, arrived_at}
 use Rattle.soundness_laws.proofs.Meeting.{met_node, met_low}
@@ -87,13 +88,13 @@ module _ (ws : List ℕ) (front : ℕ) (names queue : List ℕ) (tail : ℕ) (H 
           ))
           (live_left Sized (nodes ws) (slots ws) ws [] (sound_owned ws S) i front_live)
 
-      module _ (names1 queue1 : List ℕ) (t : ℕ) (a1 : Arrives ws l names queue tail names1 queue1 t) where
-        pub front_no_left : (r : ℕ) (P : Type 0) → t ≡ stopped → r ≡ stopped → Onward ws r P
-        front_no_left r P e z = record { on = λ g. absurd (g z); stop = λ _. left_over (a1.stop e) }
+      module _ (names1 queue1 : List ℕ) where
+        pub front_no_left : (P : ℕ → Type 0) (u : Option ℕ) → u ≡ None → Arrives ws l names queue tail names1 queue1 None → Onward ws u P
+        front_no_left P u e a1 = rw e (stopping (left_over (stopped a1)))
 
-        module _ (g : t ≡ stopped → ⊥) where
+        module _ (t : ℕ) (a1 : Arrives ws l names queue tail names1 queue1 (Some t)) where
           b1 : Arrived ws l names queue tail names1 queue1 t
-          b1 = a1.on g
+          b1 = gone_on a1
 
           Q1 : Queue ws (plus f0 l) names1 queue1 t
           Q1 = queue_arrived ws f0 names queue tail H.queued l left_reached names1 queue1 t b1
@@ -182,7 +183,7 @@ module _ (ws : List ℕ) (front : ℕ) (names queue : List ℕ) (tail : ℕ) (H 
                     past = λ p h. past_more p h (ℕ_discrete p front);
                   }
 
-            pub front_arrived : (names2 queue2 : List ℕ) (u : ℕ) → Arrives ws r names1 queue1 t names2 queue2 u →
-                Onward ws u (Heads ws (front + 1) names2 queue2 u)
+            pub front_arrived : (names2 queue2 : List ℕ) (u : Option ℕ) → Arrives ws r names1 queue1 t names2 queue2 u →
+                Onward ws u (Heads ws (front + 1) names2 queue2)
             front_arrived names2 queue2 u a2 =
-                record { on = λ d. heads_more names2 queue2 u (a2.on d); stop = λ e. right_over (a2.stop e) }
+                record { on = λ w d. heads_more names2 queue2 w (a2.on w d); stop = λ e. right_over (a2.stop e) }

@@ -1,6 +1,6 @@
 -- The queue, the free list, the summaries and the slots make `Sound`, and no less.
 use mathlib.Core.Path.{◌≡◌, refl}
-use mathlib.Core.Bool.{Bool, true, false, not}
+use mathlib.Core.Bool.{Bool}
 use mathlib.Core.List.{List, []}
 use Prim.Native.Nat.{ℕ, ◌-◌, ◌≤◌}
 use native.Mathlib.Omega.{arith}
@@ -18,7 +18,6 @@ use Rattle.soundness_laws.specs.Answer.{Answers, Decides}
 use Rattle.soundness_laws.specs.Summary.{Brief}
 use Rattle.soundness_laws.specs.Whole.{Whole, SlotsRight, SoundWith}
 use Rattle.soundness_laws.specs.Known.{AllKnown}
-use Rattle.soundness_laws.proofs.Saying.{say_yes, say_no, heard_yes, heard_no}
 
 height-size : (t : Tree) → height t ≤ size t
 height-size leaf = omega arith
@@ -54,14 +53,6 @@ module _ (ws queue : List ℕ) (tail : ℕ) (W : Whole ws queue tail) (B : ℕ �
       let S = owned_sound (nodes ws) (slots ws) ws (owned R) in
       (S, omega (arith, sound_idles ws S, free-idles Sized (nodes ws) (slots ws) ws [] (owned R), W.rest))
 
--- The ends of the test's second half.
-module _ (ws queue : List ℕ) (tail : ℕ) (W : Whole ws queue tail) (B : ℕ → Brief) (b1 : Bool) (d1 : Answers b1 (AllKnown ws B) (Sound ws → ⊥)) where
-  pub no_tree : not b1 ≡ true → Answers false (SoundWith ws (nodes ws - tail)) (Sound ws → ⊥)
-  no_tree e = say_no (heard_no b1 d1 e)
-
-  module _ (e1 : not b1 ≡ false) (b2 : Bool) (d2 : Decides b2 (SlotsRight ws)) where
-    pub no_version : not b2 ≡ true → Answers false (SoundWith ws (nodes ws - tail)) (Sound ws → ⊥)
-    no_version e = say_no (λ S. heard_no b2 d2 e (sound_slots ws S))
-
-    pub all_right : not b2 ≡ false → Answers true (SoundWith ws (nodes ws - tail)) (Sound ws → ⊥)
-    all_right e = say_yes (whole_sound ws queue tail W B (heard_yes b1 d1 e1) (heard_yes b2 d2 e))
+  -- The slots decide.
+  pub all_right : (b : Bool) → Decides b (SlotsRight ws) → Answers b (SoundWith ws (nodes ws - tail)) (Sound ws → ⊥)
+  all_right b d = record { yes = λ e. whole_sound (d.yes e); no = λ e S. d.no e (sound_slots ws S) }

@@ -5,6 +5,7 @@ use mathlib.Core.List.{List, []}
 use Prim.Native.Nat.{ℕ, ◌+◌, ◌≤◌, ◌<◌}
 use native.Mathlib.Omega.{arith}
 use native.Mathlib.Decide.{ℕ_discrete}
+use Rattle.std.specs.Prelude.{Option, Some}
 use Rattle.words.specs.Layout.{nodes, slots, slot_root, not_held}
 use Rattle.words.specs.Counting.{same, occ, sum}
 use Rattle.words.specs.Reads.{Held}
@@ -12,6 +13,7 @@ use Rattle.words.specs.Sound.{Reached, from_slot, Sound}
 use Rattle.words.proofs.Counts.{same_eq, same_ne}
 use Rattle.words.proofs.Holding.{reads_link}
 use Rattle.words.proofs.SoundOwned.{sound_owned}
+use Rattle.soundness_laws.proofs.Saying.{going}
 use Rattle.soundness_laws.proofs.Slots.{root_read}
 use Rattle.soundness_laws.specs.Queue.{Fresh, met, Full, Surplus, Arrives, Roots, Heads, Onward}
 use Rattle.soundness_laws.proofs.Filling.{plus}
@@ -64,17 +66,14 @@ module _ (ws : List ℕ) (s : ℕ) (names queue : List ℕ) (tail : ℕ) (R : Ro
     links_more f k p h (yes e) = rw e (f (rw e at h))
     links_more f k p h (no d) = R.links k (omega arith) h
 
-    pub root_free : x ≡ not_held → Onward ws tail (Roots ws (s + 1) names queue tail)
+    pub root_free : x ≡ not_held → Onward ws (Some tail) (Roots ws (s + 1) names queue)
     root_free e =
         let b = R.queued.within.n_high in
-        record {
-          on = λ _. record {
-            queued = queue_as ws (met ws s []) (met ws (s + 1) []) names queue tail (λ y p q. omega (arith, met_more y, same_ne x y (λ z. omega arith))) R.queued;
-            high = omega arith;
-            links = λ k p h. links_more (λ u. absurd (u.held (sym ex ∙ e))) k p h (ℕ_discrete k s);
-          };
-          stop = λ z. absurd (omega (arith, R.queued.short));
-        }
+        going (record {
+          queued = queue_as ws (met ws s []) (met ws (s + 1) []) names queue tail (λ y p q. omega (arith, met_more y, same_ne x y (λ z. omega arith))) R.queued;
+          high = omega arith;
+          links = λ k p h. links_more (λ u. absurd (u.held (sym ex ∙ e))) k p h (ℕ_discrete k s);
+        })
 
     module _ (f : x ≡ not_held → ⊥) where
       used : Held ws s
@@ -100,17 +99,17 @@ module _ (ws : List ℕ) (s : ℕ) (names queue : List ℕ) (tail : ℕ) (R : Ro
           ))
           (reads_link (nodes ws) ws (slot_root (nodes ws) ws s) (S.trees.tree s used) t)
 
-      pub root_arrived : (names' queue' : List ℕ) (r : ℕ) → Arrives ws x names queue tail names' queue' r →
-          Onward ws r (Roots ws (s + 1) names' queue' r)
+      pub root_arrived : (names' queue' : List ℕ) (r : Option ℕ) → Arrives ws x names queue tail names' queue' r →
+          Onward ws r (Roots ws (s + 1) names' queue')
       root_arrived names' queue' r a =
           record {
-            on = λ g.
-                let b = a.on g in
+            on = λ t g.
+                let b = a.on t g in
                 record {
-                  queued = queue_as ws (plus (met ws s []) x) (met ws (s + 1) []) names' queue' r (λ y p q. met_more y)
-                      (queue_arrived ws (met ws s []) names queue tail R.queued x root_reached names' queue' r b);
+                  queued = queue_as ws (plus (met ws s []) x) (met ws (s + 1) []) names' queue' t (λ y p q. met_more y)
+                      (queue_arrived ws (met ws s []) names queue tail R.queued x root_reached names' queue' t b);
                   high = omega arith;
-                  links = λ k p h. links_more (λ _. omega (arith, ex, arrived_link ws x names queue tail names' queue' r b)) k p h (ℕ_discrete k s);
+                  links = λ k p h. links_more (λ _. omega (arith, ex, arrived_link ws x names queue tail names' queue' t b)) k p h (ℕ_discrete k s);
                 };
             stop = λ e. root_over (a.stop e);
           }

@@ -6,6 +6,7 @@ use mathlib.Core.List.{List}
 use Prim.Native.Nat.{ℕ, ◌+◌, ◌/◌, ◌%◌, ◌≤◌, ◌<◌}
 use native.Mathlib.Omega.{arith}
 use lib.ListN.{get_or}
+use lib.Dec.{eqb}
 use borrow.Author.Count.{below_none, below_more}
 use Rattle.trees.specs.Tree.{red, Tree, size, is_red}
 use Rattle.trees.specs.Shape.{Fine}
@@ -15,7 +16,7 @@ use Rattle.words.specs.Owned.{Version, Sized}
 use Rattle.words.proofs.Holding.{reads_same, reads_link}
 use Rattle.soundness_laws.specs.Answer.{Decides}
 use Rattle.soundness_laws.specs.Summary.{Brief, Tells}
-use Rattle.soundness_laws.proofs.Saying.{say_yes, say_no, heard_yes, heard_no}
+use Rattle.soundness_laws.proofs.Saying.{say_yes, say_no, say_equal, heard_yes, heard_no}
 use Rattle.soundness_laws.proofs.Slots.{root_read, size_read}
 use Rattle.soundness_laws.proofs.Joining.{shade_black, black_shade}
 use Rattle.soundness_laws.specs.Packed.{dark, briefs}
@@ -31,15 +32,12 @@ module _ (ws : List ℕ) (B : ℕ → Brief) (A : AllKnown ws B) (s : ℕ) (l : 
     ez : z ≡ slot_size (nodes ws) ws s
     ez = size_read ws s z n en es
 
-    pub free_right : z ≡ 0 → Decides true (SlotRight ws s)
-    free_right h = say_yes (record { version = inl (sym ex ∙ e, sym ez ∙ h) })
-
-    pub free_wrong : (z ≡ 0 → ⊥) → Decides false (SlotRight ws s)
-    free_wrong f = say_no (λ v. go v.version)
+    pub free_right : Decides (eqb z 0) (SlotRight ws s)
+    free_right = say_equal (λ h. record { version = inl (sym ex ∙ e, sym ez ∙ h) }) (λ f v. go f v.version)
       where
-        go : Version Sized (nodes ws) ws s → ⊥
-        go (inl w) = f (ez ∙ w.1)
-        go (inr w) =
+        go : (z ≡ 0 → ⊥) → Version Sized (nodes ws) ws s → ⊥
+        go f (inl w) = f (ez ∙ w.1)
+        go f (inr w) =
             let m = A.within.n_high in
             ⊎_elim (λ q. omega (arith, ex)) (λ b. omega (arith, ex, b.1)) (reads_link (nodes ws) ws (slot_root (nodes ws) ws s) w.0 w.1)
 
@@ -79,27 +77,27 @@ module _ (ws : List ℕ) (B : ℕ → Brief) (A : AllKnown ws B) (s : ℕ) (l : 
         size_is : z ≡ slot_size (nodes ws) ws s
         size_is = size_read ws s z n en es
 
-        size_wrong : (z ≡ b.size → ⊥) → Decides false (SlotRight ws s)
-        size_wrong g = say_no (λ v. g (size_is ∙ (version_is v).1 ∙ sym there.2.size_is))
-
-        slot_right : (b.color ≡ code red → ⊥) → z ≡ b.size → Decides true (SlotRight ws s)
-        slot_right g h =
-            let K = there in
-            say_yes (record {
-              version = inr (
-                K.0,
-                K.1,
-                (
-                  record {
-                    ordered = K.2.good.ordered;
-                    root = shade_black (is_red K.0) (λ w. g (K.2.color_is ∙ w));
-                    blacks = K.2.good.blacks;
-                    shape = K.2.good.shape;
-                  },
-                  sym size_is ∙ h ∙ K.2.size_is,
-                ),
-              );
-            })
+        slot_right : (b.color ≡ code red → ⊥) → Decides (eqb z b.size) (SlotRight ws s)
+        slot_right g = say_equal yes_right (λ h v. h (size_is ∙ (version_is v).1 ∙ sym there.2.size_is))
+          where
+            yes_right : z ≡ b.size → SlotRight ws s
+            yes_right h =
+                let K = there in
+                record {
+                  version = inr (
+                    K.0,
+                    K.1,
+                    (
+                      record {
+                        ordered = K.2.good.ordered;
+                        root = shade_black (is_red K.0) (λ w. g (K.2.color_is ∙ w));
+                        blacks = K.2.good.blacks;
+                        shape = K.2.good.shape;
+                      },
+                      sym size_is ∙ h ∙ K.2.size_is,
+                    ),
+                  );
+                }
 
 -- Of the v slots those below s have been tested.
 pub record SlotsTo (ws : List ℕ) (v s : ℕ) : Type 0 where
@@ -124,15 +122,11 @@ module _ (ws : List ℕ) (v s : ℕ) (t : SlotsTo ws v s) where
 -- The same from the word t of the root x.
 module _ (ws memo ends : List ℕ) (A : AllKnown ws (briefs memo ends)) (s : ℕ) (l : s < slots ws) (n : ℕ) (en : n ≡ nodes ws) (x : ℕ)
     (er : x ≡ slot_root n ws s) (f : x ≡ not_held → ⊥) (t : ℕ) (et : t ≡ get_or memo x 0) where
-  pub word_red : t / dark % 2 ≡ code red → Decides false (SlotRight ws s)
+  pub word_red : t / dark % 2 ≡ code red → Decides (not (eqb (t / dark % 2) (code red))) (SlotRight ws s)
   unfolding briefs
-  word_red e = root_red ws (briefs memo ends) A s l n en x er f (briefs memo ends x) refl (rw et at e)
+  word_red e = rw e (root_red ws (briefs memo ends) A s l n en x er f (briefs memo ends x) refl (rw et at e))
 
   module _ (z : ℕ) (es : z ≡ slot_size n ws s) where
-    pub word_size_wrong : (z ≡ t % dark → ⊥) → Decides false (SlotRight ws s)
+    pub word_right : (t / dark % 2 ≡ code red → ⊥) → Decides (eqb z (t % dark)) (SlotRight ws s)
     unfolding briefs
-    word_size_wrong g = size_wrong ws (briefs memo ends) A s l n en x er f (briefs memo ends x) refl z es (λ e. g (rw et e))
-
-    pub word_right : (t / dark % 2 ≡ code red → ⊥) → z ≡ t % dark → Decides true (SlotRight ws s)
-    unfolding briefs
-    word_right g h = slot_right ws (briefs memo ends) A s l n en x er f (briefs memo ends x) refl z es (λ e. g (rw et e)) (rw et at h)
+    word_right g = rw et (slot_right ws (briefs memo ends) A s l n en x er f (briefs memo ends x) refl z es (λ e. g (rw et e)))

@@ -1,6 +1,6 @@
 -- The queue: a node enters it when as many names of it were met as its count says, so after all
 -- that name it.
-use Rattle.std.specs.Prelude.{◌≡◌, List, [], map, ℕ, suc, ◌+◌, ◌≤◌, ◌<◌, length, get_or, set, take}
+use Rattle.std.specs.Prelude.{◌≡◌, Option, List, [], map, ℕ, suc, ◌+◌, ◌≤◌, ◌<◌, length, get_or, set, take}
 use Rattle.words.specs.Layout.{nodes, slots, left, right, count, slot_root}
 use Rattle.words.specs.Counting.{occ, sum}
 use Rattle.words.specs.Owned.{held}
@@ -66,8 +66,9 @@ pub record Surplus (ws names : List ℕ) (x : ℕ) : Type 0 where
   pub low : 1 ≤ x
   pub over : x ≤ nodes ws → count ws x ≤ get_or names x 0
 
-abbrev pub Arrives : List ℕ → ℕ → List ℕ → List ℕ → ℕ → List ℕ → List ℕ → ℕ → Type 0
-Arrives ws x names queue tail names' queue' r = Ways r (Arrived ws x names queue tail names' queue' r) (Surplus ws names x)
+-- The queue's new end, or none where the name is one too many.
+abbrev pub Arrives : List ℕ → ℕ → List ℕ → List ℕ → ℕ → List ℕ → List ℕ → Option ℕ → Type 0
+Arrives ws x names queue tail names' queue' r = Ways r (Arrived ws x names queue tail names' queue') (Surplus ws names x)
 
 -- The roots of the first s slots have been met.
 pub record Roots (ws : List ℕ) (s : ℕ) (names queue : List ℕ) (tail : ℕ) : Type 0 where
@@ -93,6 +94,6 @@ pub record Heads (ws : List ℕ) (front : ℕ) (names queue : List ℕ) (tail : 
 abbrev pub Reach : List ℕ → List ℕ → List ℕ → ℕ → Type 0
 Reach ws names queue tail = Heads ws tail names queue tail
 
--- A step that goes on with P, or stops where the arena is not sound.
-abbrev pub Onward : List ℕ → ℕ → Type 0 → Type 0
+-- A step that goes on with a number of which P holds, or stops where the arena is not sound.
+abbrev pub Onward : List ℕ → Option ℕ → (ℕ → Type 0) → Type 0
 Onward ws r P = Ways r P (Sound ws → ⊥)

@@ -1,12 +1,7 @@
 -- What a step answers that goes on with a number, or stops.
-use Rattle.std.specs.Prelude.{◌≡◌, ℕ}
-use Rattle.words.specs.Layout.{not_held}
+use Rattle.std.specs.Prelude.{◌≡◌, ℕ, Option, Some, None}
 
--- No queue is as long as this.
-abbrev pub stopped : ℕ
-stopped = not_held
-
--- P where it goes on, Q where it stops.
-pub record Ways (r : ℕ) (P Q : Type 0) : Type 0 where
-  pub on : (r ≡ stopped → ⊥) → P
-  pub stop : r ≡ stopped → Q
+-- P of the number where it goes on, Q where it stops.
+pub record Ways (r : Option ℕ) (P : ℕ → Type 0) (Q : Type 0) : Type 0 where
+  pub on : (t : ℕ) → r ≡ Some t → P t
+  pub stop : r ≡ None → Q

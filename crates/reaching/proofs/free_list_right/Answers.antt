@@ -1,8 +1,8 @@
-use Rattle.soundness_laws.proofs.Sparing.{walk_start, walk_no, walk_inside, walk_more, walk_past, walk_end}
+use Rattle.soundness_laws.proofs.Sparing.{walk_start, walk_no, walk_inside, walk_more, walk_end}
 use Rattle.reaching.proofs.free_list_right.Goals as goal
 
-pub loop-left-init : goal.loop-left-init
-loop-left-init c = search walk_start
+pub loop-gone-init : goal.loop-gone-init
+loop-gone-init c = search walk_start
 
 pub returns-then-not-is_spare : goal.returns-then-not-is_spare
 returns-then-not-is_spare c = search walk_no
@@ -10,11 +10,8 @@ returns-then-not-is_spare c = search walk_no
 pub left_of-i-requires : goal.left_of-i-requires
 left_of-i-requires c = search walk_inside
 
-pub loop-left-preserved : goal.loop-left-preserved
-loop-left-preserved c = search walk_more
-
-pub returns-then-i-ne0 : goal.returns-then-i-ne0
-returns-then-i-ne0 c = search walk_past
+pub loop-gone-preserved : goal.loop-gone-preserved
+loop-gone-preserved c = search walk_more
 
 pub returns : goal.returns
 returns c = search walk_end

@@ -1,14 +1,15 @@
-use Rattle.soundness_laws.proofs.Telling.{live_stopped, live_short, live_no, live_all}
+use Rattle.soundness_laws.proofs.Saying.{stop_too}
+use Rattle.soundness_laws.proofs.Telling.{live_short, live_no, live_all}
 use Rattle.reaching.proofs.live_nodes.Goals as goal
 
-pub returns-then-tail : goal.returns-then-tail
-returns-then-tail c = search live_stopped
+pub returns-in_err-tail : goal.returns-in_err-tail
+returns-in_err-tail c = stop_too c.from_residual.ensures c.in_err-tail.ensures
 
 pub overflow_sub-rest : goal.overflow_sub-rest
-overflow_sub-rest c = search live_short
+overflow_sub-rest c = search (live_short, c.in_ok-tail.ensures)
 
 pub returns-then-not-free_list_right : goal.returns-then-not-free_list_right
-returns-then-not-free_list_right c = search live_no
+returns-then-not-free_list_right c = search (live_no, c.in_ok-tail.ensures)
 
 pub returns : goal.returns
-returns c = search live_all
+returns c = search (live_all, c.in_ok-tail.ensures)

@@ -3,6 +3,3 @@ use Rattle.soundness.proofs.settling.settle_all.Given as goal
 
 abbrev pub invariant-loop-k : goal.invariant-loop-k
 invariant-loop-k l = SettlingTo l.ws l.queue l.tail l.initial.memo l.initial.ends l.k l.memo l.ends
-
-abbrev pub decreases-loop-k : goal.decreases-loop-k
-decreases-loop-k l = l.k

@@ -1,9 +1,5 @@
-use Prim.Native.Nat.{◌-◌}
 use Rattle.soundness_laws.proofs.Versions.{SlotsTo}
 use Rattle.soundness.proofs.settling.slots_right.Given as goal
 
 abbrev pub invariant-loop-s : goal.invariant-loop-s
-invariant-loop-s l = SlotsTo l.ws l.v l.s
-
-abbrev pub decreases-loop-s : goal.decreases-loop-s
-decreases-loop-s l = l.v - l.s
+invariant-loop-s l = SlotsTo l.ws l.s-end l.s

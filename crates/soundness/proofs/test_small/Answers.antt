@@ -1,6 +1,0 @@
-use Rattle.soundness.specs.Verdict.{small_links}
-use Rattle.soundness.proofs.Verdicts.{fresh_scratch}
-use Rattle.soundness.proofs.test_small.Goals as goal
-
-pub test_on-requires : goal.test_on-requires
-test_on-requires c = fresh_scratch small_links _ c.requires
