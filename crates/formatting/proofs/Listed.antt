@@ -52,7 +52,7 @@ module _ {i n : ℕ} {ws ws' : List ℕ} (k : FreeAbove i n ws ws') where
   pub free_inside : NodeInside ws n → NodeInside ws' i
   free_inside h = omega (arith, k.inside, k.long)
 
-  pub free_end : i ≤ 0 → FreeAbove 0 n ws ws'
+  pub free_end : i < 1 → FreeAbove 0 n ws ws'
   free_end l = let e : 0 ≡ i = omega arith in rw e k
 
 -- Node j + 1 goes to the front.

@@ -10,12 +10,12 @@ ghost use Rattle.versions.specs.Slots.{done_answer};
 ghost use Rattle.formatting.specs.Steps.{Headed, FreeAbove, EmptyBelow};
 
 use answers::Refusal;
-use arena::{HEAD_WORD, NODES_WORD, NOT_HELD, SLOTS_WORD, put_slot};
+use arena::{HEAD_WORD, HEADER_WORDS, NODES_WORD, NOT_HELD, SLOTS_WORD, put_slot};
 use limits::fits;
 use nodes::push_free;
 use versions::DoneAnswer;
 
-// The first spare word of the header; the header's last word is the last of them.
+// The first spare word of the header, whose other words from there on are spare too.
 const SPARE_WORD: usize = 3;
 
 // The header of an arena without a free node.
@@ -26,11 +26,7 @@ fn write_header(ws: &mut [u32], n: u32, v: u32)
     ws[NODES_WORD] = n;
     ws[SLOTS_WORD] = v;
     ws[HEAD_WORD] = 0;
-    ws[SPARE_WORD] = 0;
-    ws[SPARE_WORD + 1] = 0;
-    ws[SPARE_WORD + 2] = 0;
-    ws[SPARE_WORD + 3] = 0;
-    ws[SPARE_WORD + 4] = 0;
+    ws[SPARE_WORD..HEADER_WORDS].fill(0);
 }
 
 // RULES 4.33: every node goes to the front of the free list, the last first, so that they are
@@ -40,10 +36,8 @@ fn free_nodes(ws: &mut [u32], n: u32)
     requires ws_value { head ws.old ≡ 0 }
     ensures { FreeAbove 0 n ws.old ws.new }
 {
-    let mut i = n;
-    while 0 < i {
+    for i in (1..=n).rev() {
         push_free(ws, i);
-        i -= 1;
     }
 }
 
@@ -52,10 +46,8 @@ fn empty_slots(ws: &mut [u32], n: u32, v: u32)
     requires { arena_words n v ≤ length ws.old }
     ensures { EmptyBelow v n ws.old ws.new }
 {
-    let mut s = 0u32;
-    while s < v {
+    for s in 0..v {
         put_slot(ws, n, s, NOT_HELD, 0);
-        s += 1;
     }
 }
 

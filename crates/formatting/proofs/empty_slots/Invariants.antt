@@ -1,9 +1,5 @@
-use Prim.Native.Nat.{◌-◌}
 use Rattle.formatting.specs.Steps.{EmptyBelow}
 use Rattle.formatting.proofs.empty_slots.Given as goal
 
 abbrev pub invariant-loop-s : goal.invariant-loop-s
 invariant-loop-s l = EmptyBelow l.s l.n l.initial.ws l.ws
-
-abbrev pub decreases-loop-s : goal.decreases-loop-s
-decreases-loop-s l = l.v - l.s
