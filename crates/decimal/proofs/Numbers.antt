@@ -3,12 +3,11 @@ use Prim.Native.Nat.{ℕ, ◌+◌, ◌-◌, ◌*◌, ◌/◌, ◌%◌, ◌≤◌
 use mathlib.Core.Path.{◌≡◌, refl, ◌∙◌}
 use mathlib.Core.Bool.{Bool, true, false, ◌&&◌, false≢true}
 use mathlib.Core.List.{List, [], ◌∷◌, ◌++◌, append_assoc}
-use mathlib.Core.Option.{Option, none, some}
 use native.Mathlib.Omega.{arith}
 use native.Mathlib.Decide.{dec_lt}
 use lib.Dec.{leb}
-use borrow.Author.Tests.{lt-ltb, le-ltb, le-leb, lt-leb, leb-true, ne_eqb}
-use Rattle.std.specs.Prelude.{if◌then◌else◌}
+use borrow.Author.Tests.{lt-ltb, le-ltb, le-leb, leb-true, ne_eqb}
+use Rattle.std.specs.Prelude.{Option, None, Some, if◌then◌else◌}
 use Rattle.decimal.specs.Decimal.{largest, digit, digits}
 use Rattle.decimal.specs.Numbers.{is_digit, number_from, number}
 use Rattle.decimal.proofs.Digits.{along, digits-one, digits_more, digits_append}
@@ -24,12 +23,6 @@ both false b e = absurd (false≢true e)
 pub digit_bounds : (b : ℕ) → is_digit b ≡ true → (48 ≤ b) × (b ≤ 57)
 digit_bounds b e = let p = both (leb 48 b) (leb b 57) e in (leb-true 48 b p.0, leb-true b 57 p.1)
 
-pub digit_low : {b : ℕ} → b < 48 → false ≡ is_digit b
-digit_low {b} h = rw (lt-leb 48 b h)
-
-pub digit_high : {b : ℕ} → 48 ≤ b → leb b 57 ≡ is_digit b
-digit_high {b} h = rw (le-leb 48 b h)
-
 -- One step of reading a number, by its four cases.
 
 pub from_digit : (v b : ℕ) (rest : List ℕ) → is_digit b ≡ true → 0 < v → v * 10 + (b - 48) ≤ largest →
@@ -37,15 +30,15 @@ pub from_digit : (v b : ℕ) (rest : List ℕ) → is_digit b ≡ true → 0 < v
 unfolding number_from
 from_digit v b rest e p h = rw (e, ne_eqb v 0 (omega arith), le-ltb largest (v * 10 + (b - 48)) h)
 
-pub from_zero : (b : ℕ) (rest : List ℕ) → is_digit b ≡ true → number_from 0 (b ∷ rest) ≡ none
+pub from_zero : (b : ℕ) (rest : List ℕ) → is_digit b ≡ true → number_from 0 (b ∷ rest) ≡ None
 unfolding number_from
 from_zero b rest e = rw e
 
-pub from_large : (v b : ℕ) (rest : List ℕ) → is_digit b ≡ true → 0 < v → largest < v * 10 + (b - 48) → number_from v (b ∷ rest) ≡ none
+pub from_large : (v b : ℕ) (rest : List ℕ) → is_digit b ≡ true → 0 < v → largest < v * 10 + (b - 48) → number_from v (b ∷ rest) ≡ None
 unfolding number_from
 from_large v b rest e p h = rw (e, ne_eqb v 0 (omega arith), lt-ltb largest (v * 10 + (b - 48)) h)
 
-pub from_other : (v b : ℕ) (rest : List ℕ) → is_digit b ≡ false → number_from v (b ∷ rest) ≡ some (v, b ∷ rest)
+pub from_other : (v b : ℕ) (rest : List ℕ) → is_digit b ≡ false → number_from v (b ∷ rest) ≡ Some (v, b ∷ rest)
 unfolding number_from
 from_other v b rest e = rw e
 
@@ -75,7 +68,7 @@ abbrev pub Stops : List ℕ → Type 0
 Stops [] = Unit {0}
 Stops (b ∷ rest) = is_digit b ≡ false
 
-pub from_stops : (n : ℕ) (more : List ℕ) → Stops more → number_from n more ≡ some (n, more)
+pub from_stops : (n : ℕ) (more : List ℕ) → Stops more → number_from n more ≡ Some (n, more)
 unfolding number_from
 from_stops n [] h = refl
 from_stops n (b ∷ more) h = rw h
@@ -83,8 +76,8 @@ from_stops n (b ∷ more) h = rw h
 -- What is read has that text.
 
 abbrev pub Is : List ℕ → Option (ℕ × List ℕ) → Type 0
-Is line none = Unit {0}
-Is line (some p) = (line ≡ digits p.0 ++ p.1) × (p.0 ≤ largest)
+Is line None = Unit {0}
+Is line (Some p) = (line ≡ digits p.0 ++ p.1) × (p.0 ≤ largest)
 
 from_more : (v b : ℕ) (rest : List ℕ) → is_digit b ≡ true → 0 < v → v * 10 + (b - 48) ≤ largest →
     Is (digits (v * 10 + (b - 48)) ++ rest) (number_from (v * 10 + (b - 48)) rest) → Is (digits v ++ b ∷ rest) (number_from v (b ∷ rest))
@@ -112,7 +105,7 @@ unfolding number
 number_is [] = tt
 number_is (b ∷ rest) = go (is_digit b) refl
   where
-    go : (d : Bool) → is_digit b ≡ d → Is (b ∷ rest) (if d then number_from (b - 48) rest else none)
+    go : (d : Bool) → is_digit b ≡ d → Is (b ∷ rest) (if d then number_from (b - 48) rest else None)
     go false e = tt
     go true e =
         let q = digit_bounds b e in

@@ -1,12 +1,14 @@
 -- Bytes stored one after another.
-use Prim.Native.Nat.{ℕ, suc, ◌+◌, ◌/◌, ◌%◌, ◌≤◌, ◌<◌}
+use Prim.Native.Nat.{ℕ, suc, ◌+◌, ◌-◌, ◌/◌, ◌%◌, ◌≤◌, ◌<◌}
 use mathlib.Core.Path.{◌≡◌, refl, ap, ◌∙◌, sym}
-use mathlib.Core.List.{List, [], ◌∷◌, ◌++◌}
+use mathlib.Core.List.{List, [], ◌∷◌, ◌++◌, append_assoc}
 use native.Mathlib.Omega.{arith}
-use native.Mathlib.Numerals.{add-one}
 use native.Mathlib.Nat.{add-zero}
-use lib.ListN.{length, get_or, take, set, length-append, length-set}
-use lib.Seq.{sets, length-sets, take-suc, length-take-le, take_all}
+use borrow.Rule.Slice.PartMut.{put_mid}
+use lib.ListN.{length, take, drop, set, length-append, length-set}
+use lib.Seq.{sets, length-sets}
+use Rattle.std.proofs.lemmas.List.Edits.{sets-eq, paste_all}
+use Rattle.std.proofs.lemmas.Slice.{put_mid-paste}
 use mir.Syntax.{w32}
 use mir.Val.{Fits}
 use Rattle.decimal.specs.Decimal.{digit, digits}
@@ -33,38 +35,16 @@ one_byte out at b h = record { stored = refl; after = refl; inside = rw (length-
 pub written_length : {a b s : List ℕ} {i j : ℕ} → Written a i s b j → length b ≡ length a
 written_length {a} {b} {s} {i} {j} w = ap length w.stored ∙ length-sets a i s
 
--- A text, byte by byte.
-pub record Putting (out : List ℕ) (at : ℕ) (text out' : List ℕ) (k : ℕ) : Type 0 where
-  pub inside : k ≤ length text
-  pub stored : out' ≡ sets out at (take k text)
-
-pub putting_none : (out : List ℕ) (at : ℕ) (text : List ℕ) → Putting out at text out 0
-putting_none out at text = record { inside = omega arith; stored = refl }
-
-pub putting_length : {out text out' : List ℕ} {at k : ℕ} → Putting out at text out' k → length out' ≡ length out
-putting_length {out} {text} {out'} {at} {k} p = ap length p.stored ∙ length-sets out at (take k text)
-
-pub putting_more : {out text out' : List ℕ} {at k : ℕ} → Putting out at text out' k → k < length text →
-    Putting out at text (set out' (at + k) (get_or text k 0)) (k + 1)
-putting_more {out} {text} {out'} {at} {k} p h =
-    let l : length (take k text) ≡ k = length-take-le k text p.inside in
-    record {
-      inside = omega arith;
-      stored =
-          ap (λ (o : List ℕ). set o (at + k) (get_or text k 0)) p.stored
-          ∙ ap (λ (n : ℕ). set (sets out at (take k text)) (at + n) (get_or text k 0)) (sym l)
-          ∙ sym (sets_append (take k text) (get_or text k 0 ∷ []) out at)
-          ∙ rw (add-one, take-suc text k 0 h);
-    }
-
-pub putting_all : {out text out' : List ℕ} {at k : ℕ} → HasRoom out at text → Putting out at text out' k → length text ≤ k →
-    Written out at text out' (at + k)
-putting_all {out} {text} {out'} {at} {k} r p h =
-    record {
-      stored = p.stored ∙ rw (take_all k text h);
-      after = omega (arith, p.inside);
-      inside = omega (arith, r.room, p.inside, putting_length p);
-    }
+-- A text, copied over the part that it takes.
+pub copied : {out text new : List ℕ} {at : ℕ} → HasRoom out at text → new ≡ text →
+    Written out at text (put_mid at (at + length text - at) out new) (at + length text)
+copied {out} {text} {new} {at} r e =
+    let s : put_mid at (at + length text - at) out new ≡ sets out at text =
+    put_mid-paste at (at + length text - at) out new text (length text) e (omega arith) refl
+    ∙ paste_all out at text (length text) refl
+    ∙ sym (append_assoc (take at out) text (drop (at + length text) out))
+    ∙ sym (sets-eq text out at r.room) in
+    record { stored = s; after = refl; inside = rw (s, length-sets out at text) r.room }
 
 -- Room for the parts of a text.
 

@@ -1,79 +1,47 @@
 // The decimal text of a number, read and written at a place.
 #![tactic(auto)]
 
-ghost use Rattle.std.specs.Prelude.{◌≡◌, ◌+◌, ◌-◌, ◌*◌, ◌≤◌, ◌<◌, drop};
-ghost use Rattle.decimal.specs.Decimal.{digit, digits};
-ghost use Rattle.decimal.specs.Numbers.{is_digit, number_from, number as number_in, Finds};
+ghost use Rattle.std.specs.Prelude.{◌≡◌, ◌+◌, ◌-◌, ◌*◌, ◌≤◌, ◌<◌, drop, SomeIff};
+ghost use Rattle.decimal.specs.Decimal.{largest, digit, digits};
+ghost use Rattle.decimal.specs.Numbers.{digit_in, number_from, number as number_in, Finds};
 ghost use Rattle.decimal.specs.Written.{HasRoom, Written};
 
-// A number and the place after it, where one stands.
-#[derive(Clone, Copy)]
-pub enum Found {
-    Number(u32, usize),
-    Nothing,
-}
-
-// RULES 9.5: the largest number that a line may have.
-const LARGEST: u64 = 4294967295;
-
-fn is_digit(b: u8) -> bool
-    ensures { result ≡ is_digit b }
+// The digit at the place, if one stands there.
+fn digit_at(line: &[u8], at: usize) -> Option<u32>
+    ensures { result ≡ digit_in (drop at line.now) }
 {
-    if b < 48 {
-        return false;
-    }
-    b <= 57
+    let b = *line.get(at)?;
+    char::from(b).to_digit(10)
 }
 
-fn digit_value(b: u8) -> u32
-    requires { (48 ≤ b) × (b ≤ 57) }
-    ensures { result ≡ b - 48 }
+// The value with one more digit. RULES 9.5 has 4,294,967,295 for the largest: that of the type.
+fn with_digit(value: u32, digit: u32) -> Option<u32>
+    ensures { SomeIff result (value * 10 + digit ≤ largest) (value * 10 + digit) }
 {
-    (b - 48) as u32
+    value.checked_mul(10)?.checked_add(digit)
 }
 
-// The value with one more digit.
-fn with_digit(value: u32, b: u8) -> u64
-    requires { (48 ≤ b) × (b ≤ 57) }
-    ensures { result ≡ value * 10 + (b - 48) }
-{
-    (value as u64) * 10 + (digit_value(b) as u64)
-}
-
-// The number whose digits go on at the place, after those that made the value. A 0 takes no digit
-// after it (RULES 9.5).
-fn number_from(line: &[u8], at: usize, value: u32) -> Found
+// The number whose digits go on at the place, after those that made the value, and the place after
+// it. A 0 takes no digit after it (RULES 9.5).
+fn number_from(line: &[u8], at: usize, value: u32) -> Option<(u32, usize)>
     ensures { Finds line.now result (number_from value (drop at line.now)) }
 {
-    if line.len() <= at {
-        return Found::Number(value, at);
-    }
-    let b = line[at];
-    if !is_digit(b) {
-        return Found::Number(value, at);
-    }
+    let Some(digit) = digit_at(line, at) else {
+        return Some((value, at));
+    };
     if value == 0 {
-        return Found::Nothing;
+        return None;
     }
-    let more = with_digit(value, b);
-    if LARGEST < more {
-        return Found::Nothing;
-    }
-    number_from(line, at + 1, more as u32)
+    let more = with_digit(value, digit)?;
+    number_from(line, at + 1, more)
 }
 
-// The number at the place.
-pub fn number(line: &[u8], at: usize) -> Found
+// The number at the place, if one stands there, and the place after it.
+pub fn number(line: &[u8], at: usize) -> Option<(u32, usize)>
     ensures { Finds line.now result (number_in (drop at line.now)) }
 {
-    if line.len() <= at {
-        return Found::Nothing;
-    }
-    let b = line[at];
-    if !is_digit(b) {
-        return Found::Nothing;
-    }
-    number_from(line, at + 1, digit_value(b))
+    let first = digit_at(line, at)?;
+    number_from(line, at + 1, first)
 }
 
 // The byte of a digit.
@@ -81,20 +49,18 @@ fn digit_byte(d: u32) -> u8
     requires { d < 10 }
     ensures { result ≡ digit d }
 {
-    48 + (d as u8)
+    b'0' + d as u8
 }
 
-// Writes the bytes at the place and answers the place after them.
+// Writes the bytes at the place and answers the place after them. A writer struct or `write!` would
+// be no plainer: `Written` speaks of the buffer, both places and the bytes, as the call here does.
 pub fn put_text(out: &mut [u8], at: usize, text: &[u8]) -> usize
     requires { HasRoom out.old at text.now }
     ensures { Written out.old at text.now out.new result }
 {
-    let mut k = 0usize;
-    while k < text.len() {
-        out[at + k] = text[k];
-        k += 1;
-    }
-    at + k
+    let next = at + text.len();
+    out[at..next].copy_from_slice(text);
+    next
 }
 
 // Writes the decimal text of the number (RULES 9.5).

@@ -1,14 +1,13 @@
-use Rattle.decimal.proofs.Finding.{digit_from, digit_to, number_end, number_no_digit, number_on}
+use mathlib.Core.Path.{◌∙◌, sym}
+use native.Mathlib.Omega.{arith}
+use Rattle.decimal.proofs.Finding.{digit_inside, number_no_digit, number_on}
 use Rattle.decimal.proofs.number.Goals as goal
 
-pub returns-then-line-at : goal.returns-then-line-at
-returns-then-line-at c = search number_end
+pub returns-in_err-first : goal.returns-in_err-first
+returns-in_err-first c = rw c.from_residual.ensures (number_no_digit _ _ c.digit_at.ensures c.in_err-first.was)
 
-pub returns-then-not-is_digit : goal.returns-then-not-is_digit
-returns-then-not-is_digit c = search number_no_digit
-
-pub digit_value-requires : goal.digit_value-requires
-digit_value-requires c = search (digit_from, digit_to)
+pub overflow_add-at : goal.overflow_add-at
+overflow_add-at c = omega (arith, digit_inside c.args.line.now c.args.at c.in_ok-first.first (sym c.digit_at.ensures ∙ c.in_ok-first.was))
 
 pub returns : goal.returns
-returns c = search number_on
+returns c = number_on _ _ c.digit_at.ensures c.in_ok-first.was c.number_from.ensures
