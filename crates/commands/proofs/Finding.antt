@@ -1,76 +1,87 @@
 -- Fields found at a place of a line, by each way in which the functions return.
-use Prim.Native.Nat.{ℕ, ◌+◌, ◌≤◌, ◌<◌}
-use mathlib.Core.Path.{◌≡◌, ap, ◌∙◌, sym}
-use mathlib.Core.List.{List}
-use mathlib.Core.Option.{Option, none, some}
+use Prim.Native.Nat.{ℕ, suc, ◌+◌, ◌-◌, ◌≤◌, ◌<◌}
+use mathlib.Core.Path.{◌≡◌, refl, ap, ◌∙◌, sym}
+use mathlib.Core.List.{List, [], ◌∷◌, ◌++◌, append_assoc}
+use native.Mathlib.Omega.{arith}
 use native.Mathlib.Numerals.{add-one}
-use lib.ListN.{length, get_or, drop, drop_of_length-le}
+use native.Mathlib.Nat.{sub-zero}
+use lib.ListN.{length, get_or, take, drop, set, length-set, drop_of_length-le}
 use lib.Seq.{drop-cons}
 use borrow.Author.Tests.{eq-eqb, ne_eqb}
-use Rattle.decimal.specs.declared.Found.{Found}
+use Rattle.std.specs.Prelude.{Option, None, Some, option_map}
+use Rattle.std.proofs.lemmas.Grind.{take-set_at}
+use Rattle.std.proofs.lemmas.List.{append-nil, take_all}
 use Rattle.decimal.specs.Numbers.{number, found_in, Finds}
-use Rattle.commands.specs.declared.One.{One}
-use Rattle.commands.specs.declared.Two.{Two}
-use Rattle.commands.specs.declared.Three.{Three}
-use Rattle.commands.specs.Parts.{field, one_in, two_in, three_in}
+use Rattle.commands.specs.Parts.{field, with_field, fields}
 
 -- The space before a number.
-module _ {line : List ℕ} {at : ℕ} where
-  pub field_end : length line ≤ at → Finds line Found.Nothing (field (drop at line))
+module _ (line : List ℕ) (at : ℕ) where
+  pub field_end : length line ≤ at → Finds line None (field (drop at line))
   unfolding field
   field_end h = record { found = rw (drop_of_length-le line h) }
 
-  pub field_no_space : at < length line → (get_or line at 0 ≡ 32 → ⊥) → Finds line Found.Nothing (field (drop at line))
+  pub field_no_space : {b : ℕ} → at < length line → b ≡ get_or line at 0 → (b ≡ 32 → ⊥) → Finds line None (field (drop at line))
   unfolding field
-  field_no_space h d = record { found = rw (drop-cons line at 0 h, ne_eqb (get_or line at 0) 32 d) }
+  field_no_space {b} h e d = record { found = rw (drop-cons line at 0 h, ← e, ne_eqb b 32 d) }
 
-  pub field_on : {f : Found} → at < length line → get_or line at 0 ≡ 32 → Finds line f (number (drop (at + 1) line)) → Finds line f (field (drop at line))
+  pub field_on : {b : ℕ} {f : Option (ℕ × ℕ)} → at < length line → b ≡ get_or line at 0 → b ≡ 32 → Finds line f (number (drop (at + 1) line)) →
+      Finds line f (field (drop at line))
   unfolding field
-  field_on h e w = record { found = w.found ∙ rw (add-one, drop-cons line at 0 h, eq-eqb (get_or line at 0) 32 e) }
+  field_on {b} h e s w = record { found = w.found ∙ rw (add-one, drop-cons line at 0 h, ← e, eq-eqb b 32 s) }
 
--- Fields up to the line's end.
-module _ {line : List ℕ} {f : Found} {o : Option (ℕ × List ℕ)} (w : Finds line f o) where
-  none_found : f ≡ Found.Nothing → o ≡ none
-  none_found e = sym w.found ∙ ap (found_in line) e
+-- So many fields, up to the line's end.
 
-  some_found : {a next : ℕ} → f ≡ Found.Number a next → o ≡ some (a, drop next line)
-  some_found e = sym w.found ∙ ap (found_in line) e
+pub in_front : List ℕ → Option (List ℕ) → Option (List ℕ)
+in_front xs o = option_map (λ ns. xs ++ ns) o
 
-module _ {line : List ℕ} (at : ℕ) {f : Found} (w : Finds line f (field (drop at line))) where
-  pub one_none : f ≡ Found.Nothing → One.Wrong ≡ one_in (drop at line)
-  unfolding one_in
-  one_none e = rw (none_found w e)
+in_front_none : (o : Option (List ℕ)) → o ≡ in_front [] o
+unfolding in_front
+in_front_none None = refl
+in_front_none (Some ns) = refl
 
-  pub one_longer : {a next : ℕ} → f ≡ Found.Number a next → next < length line → One.Wrong ≡ one_in (drop at line)
-  unfolding one_in
-  one_longer {a} {next} e h = rw (some_found w e, drop-cons line next 0 h)
+in_front_more : (xs : List ℕ) (n : ℕ) (o : Option (List ℕ)) → in_front xs (option_map (λ ns. n ∷ ns) o) ≡ in_front (xs ++ n ∷ []) o
+unfolding in_front
+in_front_more xs n None = refl
+in_front_more xs n (Some ns) = ap (λ (l : List ℕ). Some l) (sym (append_assoc xs (n ∷ []) ns))
 
-  pub one_last : {a next : ℕ} → f ≡ Found.Number a next → length line ≤ next → One.Number a ≡ one_in (drop at line)
-  unfolding one_in
-  one_last e h = rw (some_found w e, drop_of_length-le line h)
+-- The first k numbers are read, so that what is left decides.
+pub record Taking (size : ℕ) (line numbers : List ℕ) (k at : ℕ) : Type 0 where
+  pub room : length numbers ≡ size
+  pub left : fields size line ≡ in_front (take k numbers) (fields (size - k) (drop at line))
 
-  pub two_none : f ≡ Found.Nothing → Two.Wrong ≡ two_in (drop at line)
-  unfolding two_in
-  two_none e = rw (none_found w e)
+pub taking_none : {size : ℕ} (line numbers : List ℕ) → length numbers ≡ size → Taking size line numbers 0 0
+taking_none {size} line numbers e = record { room = e; left = rw sub-zero (in_front_none (fields size line)) }
 
-  pub two_one : {a next : ℕ} {n : One} → f ≡ Found.Number a next → n ≡ one_in (drop next line) → n ≡ One.Wrong → Two.Wrong ≡ two_in (drop at line)
-  unfolding two_in
-  two_one {a} e m z = rw (some_found w e, ← m, z)
+module _ {size k at : ℕ} {line numbers : List ℕ} {f : Option (ℕ × ℕ)} (t : Taking size line numbers k at) (w : Finds line f (field (drop at line))) where
+  next_field : k < size → fields (size - k) (drop at line) ≡ with_field (fields (size - (k + 1))) (found_in line f)
+  unfolding fields
+  next_field h =
+      let e : size - k ≡ suc (size - (k + 1)) = omega arith in
+      rw (e, w.found)
 
-  pub two_both : {a b next : ℕ} {n : One} → f ≡ Found.Number a next → n ≡ one_in (drop next line) → n ≡ One.Number b →
-      Two.Numbers a b ≡ two_in (drop at line)
-  unfolding two_in
-  two_both {a} e m z = rw (some_found w e, ← m, z)
+  pub taking_wrong : k < size → f ≡ None → None ≡ fields size line
+  unfolding in_front
+  taking_wrong h e = sym (t.left ∙ ap (in_front (take k numbers)) (next_field h ∙ ap (λ (o : Option (ℕ × ℕ)). with_field (fields (size - (k + 1))) (found_in line o)) e))
 
-  pub three_none : f ≡ Found.Nothing → Three.Wrong ≡ three_in (drop at line)
-  unfolding three_in
-  three_none e = rw (none_found w e)
+  pub taking_more : {n next : ℕ} → k < size → f ≡ Some (n, next) → Taking size line (set numbers k n) (k + 1) next
+  taking_more {n} {next} h e =
+      let left =
+      t.left
+      ∙ ap (in_front (take k numbers)) (next_field h ∙ ap (λ (o : Option (ℕ × ℕ)). with_field (fields (size - (k + 1))) (found_in line o)) e)
+      ∙ in_front_more (take k numbers) n (fields (size - (k + 1)) (drop next line)) in
+      record {
+        room = length-set numbers k n ∙ t.room;
+        left = rw (take-set_at numbers k (k + 1) n refl (omega (arith, t.room))) left;
+      }
 
-  pub three_one : {a next : ℕ} {n : Two} → f ≡ Found.Number a next → n ≡ two_in (drop next line) → n ≡ Two.Wrong → Three.Wrong ≡ three_in (drop at line)
-  unfolding three_in
-  three_one {a} e m z = rw (some_found w e, ← m, z)
+module _ {size k at : ℕ} {line numbers : List ℕ} (t : Taking size line numbers k at) (e : k ≡ size) where
+  none_left : fields size line ≡ in_front (take k numbers) (fields 0 (drop at line))
+  none_left = let z : size - k ≡ 0 = omega arith in rw z at t.left
 
-  pub three_all : {a b c next : ℕ} {n : Two} → f ≡ Found.Number a next → n ≡ two_in (drop next line) → n ≡ Two.Numbers b c →
-      Three.Numbers a b c ≡ three_in (drop at line)
-  unfolding three_in
-  three_all {a} e m z = rw (some_found w e, ← m, z)
+  pub taking_longer : at < length line → None ≡ fields size line
+  unfolding fields in_front
+  taking_longer h = sym (rw (drop-cons line at 0 h) at none_left)
+
+  pub taking_all : length line ≤ at → Some numbers ≡ fields size line
+  unfolding fields in_front
+  taking_all h = sym (rw (drop_of_length-le line h, take_all k numbers (omega (arith, t.room)), append-nil) at none_left)

@@ -1,5 +1,3 @@
-pub mod Beginning
-pub mod Fields
 pub mod Finding
 pub mod Parsing
-pub mod Says
+pub mod Spaced

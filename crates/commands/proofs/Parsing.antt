@@ -1,234 +1,194 @@
 -- A line is taken apart into the command whose text it is, both ways.
-use Prim.Native.Nat.{ℕ, ◌≤◌}
+use Prim.Native.Nat.{ℕ}
 use mathlib.Core.Path.{◌≡◌, refl, ap, ◌∙◌, sym, subst}
-use mathlib.Core.Bool.{Bool, true, false}
+use mathlib.Core.Bool.{Bool, true}
 use mathlib.Core.List.{List, [], ◌∷◌, ◌++◌}
-use mathlib.Core.Option.{Option, none, some}
 use native.Mathlib.Omega.{arith}
-use lib.ListN.{length, drop}
-use Rattle.std.specs.Prelude.{if◌then◌else◌}
+use lib.ListN.{length, get_or, take, drop}
+use Rattle.std.specs.Prelude.{Option, None, Some, option_map, if◌then◌else◌}
+use Rattle.std.specs.Str.{bytes_eq}
+use Rattle.std.proofs.lemmas.Slice.Eq.{bytes_eq-Decides}
+use Rattle.std.proofs.lemmas.List.{take-append-drop}
+use Rattle.std.proofs.lemmas.Option.{none-some, same_Some}
 use Rattle.heights.proofs.Choices.{fork}
-use Rattle.decimal.specs.Decimal.{largest, digits, digits_within}
+use Rattle.decimal.specs.Decimal.{digits, digits_within}
 use Rattle.commands.specs.declared.Command.{Command}
-use Rattle.commands.specs.declared.Line.{Line}
-use Rattle.commands.specs.declared.One.{One}
-use Rattle.commands.specs.declared.Two.{Two}
-use Rattle.commands.specs.declared.Three.{Three}
-use Rattle.commands.specs.Parts.{begins, field, ending, one_after, one_in, with_one, two_after, two_in, with_two, three_after, three_in}
-use Rattle.commands.specs.Parts.{says_new, says_hold, says_set, says_cut, says_drop, says_get, says_list}
+use Rattle.commands.specs.Parts.{fields}
 use Rattle.commands.specs.Text.{name, numbers, spaced, text, Within, Said, Reads}
-use Rattle.commands.proofs.Beginning.{begins_is}
-use Rattle.commands.proofs.Fields.{field-text, field_is, spaced_stops, IsField}
+use Rattle.commands.proofs.Spaced.{fields-text, fields_is, IsFields}
 
--- The numbers of a text are read as they are.
+-- A line that begins with the word is the word and what follows.
 
-one-text : (a : ℕ) → Within (a ∷ []) → one_in (spaced (a ∷ [])) ≡ One.Number a
-unfolding one_in spaced
-one-text a w = rw (field-text a [] w.0 tt)
+abbrev begins : List ℕ → List ℕ → Bool
+begins word line = bytes_eq (take (length word) line) word
 
-two_text : (a b : ℕ) → Within (a ∷ b ∷ []) → two_in (spaced (a ∷ b ∷ [])) ≡ Two.Numbers a b
-unfolding two_in spaced
-two_text a b w = rw (field-text a (spaced (b ∷ [])) w.0 (spaced_stops (b ∷ [])), one-text b w.1)
+pub begins_is : {rest : List ℕ} (word line : List ℕ) → begins word line ≡ true → rest ≡ drop (length word) line → line ≡ word ++ rest
+begins_is word line e r =
+    let w : take (length word) line ≡ word = (bytes_eq-Decides (take (length word) line) word).0 e in
+    sym (take-append-drop (length word) line) ∙ ap (λ (l : List ℕ). l ++ drop (length word) line) w ∙ ap (λ (l : List ℕ). word ++ l) (sym r)
 
-three_text : (a b c : ℕ) → Within (a ∷ b ∷ c ∷ []) → three_in (spaced (a ∷ b ∷ c ∷ [])) ≡ Three.Numbers a b c
-unfolding three_in spaced
-three_text a b c w = rw (field-text a (spaced (b ∷ c ∷ [])) w.0 (spaced_stops (b ∷ c ∷ [])), two_text b c w.1)
+-- The commands of the numbers that stand behind the words.
 
--- What is read has that text.
+abbrev pub as_new : List ℕ → Command
+as_new ns = Command.New
 
-abbrev IsOne : List ℕ → One → Type 0
-IsOne line (One.Number a) = (line ≡ spaced (a ∷ [])) × Within (a ∷ [])
-IsOne line One.Wrong = Unit {0}
+abbrev pub as_hold : List ℕ → Command
+as_hold ns = Command.Hold (get_or ns 0 0)
 
-abbrev IsTwo : List ℕ → Two → Type 0
-IsTwo line (Two.Numbers a b) = (line ≡ spaced (a ∷ b ∷ [])) × Within (a ∷ b ∷ [])
-IsTwo line Two.Wrong = Unit {0}
+abbrev pub as_set : List ℕ → Command
+as_set ns = Command.Set (get_or ns 0 0) (get_or ns 1 0) (get_or ns 2 0)
 
-abbrev IsThree : List ℕ → Three → Type 0
-IsThree line (Three.Numbers a b c) = (line ≡ spaced (a ∷ b ∷ c ∷ [])) × Within (a ∷ b ∷ c ∷ [])
-IsThree line Three.Wrong = Unit {0}
+abbrev pub as_cut : List ℕ → Command
+as_cut ns = Command.Cut (get_or ns 0 0) (get_or ns 1 0)
 
-one_is : (line : List ℕ) → IsOne line (one_in line)
-unfolding one_in spaced
-one_is line = go (field line) (field_is line)
-  where
-    last : (n : ℕ) (rest : List ℕ) → (line ≡ 32 ∷ digits n ++ rest) × (n ≤ largest) → IsOne line (ending n rest)
-    last n [] h = (h.0, (h.1, tt))
-    last n (b ∷ rest) h = tt
+abbrev pub as_drop : List ℕ → Command
+as_drop ns = Command.Drop (get_or ns 0 0)
 
-    go : (o : Option (ℕ × List ℕ)) → IsField line o → IsOne line (one_after o)
-    go none h = tt
-    go (some p) h = last p.0 p.1 h
+abbrev pub as_get : List ℕ → Command
+as_get ns = Command.Get (get_or ns 0 0) (get_or ns 1 0)
 
-two_is : (line : List ℕ) → IsTwo line (two_in line)
-unfolding two_in spaced
-two_is line = go (field line) (field_is line)
-  where
-    both : (a : ℕ) (rest : List ℕ) (o : One) → IsOne rest o → (line ≡ 32 ∷ digits a ++ rest) × (a ≤ largest) → IsTwo line (with_one a o)
-    both a rest (One.Number b) i h = (h.0 ∙ ap (λ (l : List ℕ). 32 ∷ digits a ++ l) i.0, (h.1, i.1))
-    both a rest One.Wrong i h = tt
+abbrev pub as_list : List ℕ → Command
+as_list ns = Command.List (get_or ns 0 0)
 
-    go : (o : Option (ℕ × List ℕ)) → IsField line o → IsTwo line (two_after o)
-    go none h = tt
-    go (some p) h = both p.0 p.1 (one_in p.1) (one_is p.1) h
+abbrev pub word_new : List ℕ
+word_new = name (as_new [])
 
-three_is : (line : List ℕ) → IsThree line (three_in line)
-unfolding three_in spaced
-three_is line = go (field line) (field_is line)
-  where
-    all : (a : ℕ) (rest : List ℕ) (o : Two) → IsTwo rest o → (line ≡ 32 ∷ digits a ++ rest) × (a ≤ largest) → IsThree line (with_two a o)
-    all a rest (Two.Numbers b c) i h = (h.0 ∙ ap (λ (l : List ℕ). 32 ∷ digits a ++ l) i.0, (h.1, i.1))
-    all a rest Two.Wrong i h = tt
+abbrev pub word_hold : List ℕ
+word_hold = name (as_hold [])
 
-    go : (o : Option (ℕ × List ℕ)) → IsField line o → IsThree line (three_after o)
-    go none h = tt
-    go (some p) h = all p.0 p.1 (two_in p.1) (two_is p.1) h
+abbrev pub word_set : List ℕ
+word_set = name (as_set [])
+
+abbrev pub word_cut : List ℕ
+word_cut = name (as_cut [])
+
+abbrev pub word_drop : List ℕ
+word_drop = name (as_drop [])
+
+abbrev pub word_get : List ℕ
+word_get = name (as_get [])
+
+abbrev pub word_list : List ℕ
+word_list = name (as_list [])
 
 -- The whole line, word by word.
-
-abbrev word_new : List ℕ
-word_new = name Command.New
-
-abbrev word_hold : List ℕ
-word_hold = name (Command.Hold 0)
-
-abbrev word_set : List ℕ
-word_set = name (Command.Set 0 0 0)
-
-abbrev word_cut : List ℕ
-word_cut = name (Command.Cut 0 0)
-
-abbrev word_drop : List ℕ
-word_drop = name (Command.Drop 0)
-
-abbrev word_get : List ℕ
-word_get = name (Command.Get 0 0)
-
-abbrev word_list : List ℕ
-word_list = name (Command.List 0)
-
-read : List ℕ → Line
+read : List ℕ → Option Command
 read line =
-    if begins word_new line then says_new (drop 3 line)
-    else (if begins word_hold line then says_hold (one_in (drop 4 line))
-    else (if begins word_set line then says_set (three_in (drop 3 line))
-    else (if begins word_cut line then says_cut (two_in (drop 3 line))
-    else (if begins word_drop line then says_drop (one_in (drop 4 line))
-    else (if begins word_get line then says_get (two_in (drop 3 line))
-    else (if begins word_list line then says_list (one_in (drop 4 line))
-    else Line.Unknown))))))
+    if begins word_new line then option_map as_new (fields 0 (drop 3 line))
+    else (if begins word_hold line then option_map as_hold (fields 1 (drop 4 line))
+    else (if begins word_set line then option_map as_set (fields 3 (drop 3 line))
+    else (if begins word_cut line then option_map as_cut (fields 2 (drop 3 line))
+    else (if begins word_drop line then option_map as_drop (fields 1 (drop 4 line))
+    else (if begins word_get line then option_map as_get (fields 2 (drop 3 line))
+    else (if begins word_list line then option_map as_list (fields 1 (drop 4 line))
+    else None))))))
 
-read_text : (c : Command) → Within (numbers c) → read (text c) ≡ Line.Says c
-unfolding read begins spaced
-read_text Command.New w = refl
-read_text (Command.Hold s) w = rw (one-text s w)
-read_text (Command.Set s k v) w = rw (three_text s k v w)
-read_text (Command.Cut s k) w = rw (two_text s k w)
-read_text (Command.Drop s) w = rw (one-text s w)
-read_text (Command.Get s k) w = rw (two_text s k w)
-read_text (Command.List s) w = rw (one-text s w)
+read_text : (c : Command) → Within (numbers c) → read (text c) ≡ Some c
+unfolding read spaced
+read_text Command.New w = rw (fields-text [] w)
+read_text (Command.Hold s) w = rw (fields-text (s ∷ []) w)
+read_text (Command.Set s k v) w = rw (fields-text (s ∷ k ∷ v ∷ []) w)
+read_text (Command.Cut s k) w = rw (fields-text (s ∷ k ∷ []) w)
+read_text (Command.Drop s) w = rw (fields-text (s ∷ []) w)
+read_text (Command.Get s k) w = rw (fields-text (s ∷ k ∷ []) w)
+read_text (Command.List s) w = rw (fields-text (s ∷ []) w)
 
 -- What is said has that text.
-abbrev Is : List ℕ → Line → Type 0
-Is line (Line.Says c) = Said line (Line.Says c)
-Is line Line.Unknown = Unit {0}
+abbrev Is : List ℕ → Option Command → Type 0
+Is line (Some c) = Said line (Some c)
+Is line None = Unit {0}
 
-new_is : (line rest : List ℕ) → line ≡ word_new ++ rest → Is line (says_new rest)
-unfolding spaced
-new_is line [] e = (e, tt)
-new_is line (b ∷ rest) e = tt
+no_number : (ns : List ℕ) → length ns ≡ 0 → [] ≡ ns
+no_number [] e = refl
+no_number (a ∷ ns) e = absurd (omega arith)
 
-hold_is : (line rest : List ℕ) (o : One) → line ≡ word_hold ++ rest → IsOne rest o → Is line (says_hold o)
-hold_is line rest (One.Number s) e i = (e ∙ ap (λ (l : List ℕ). word_hold ++ l) i.0, i.1)
-hold_is line rest One.Wrong e i = tt
+one_number : (ns : List ℕ) → length ns ≡ 1 → get_or ns 0 0 ∷ [] ≡ ns
+one_number [] e = absurd (omega arith)
+one_number (a ∷ ns) e = ap (λ (l : List ℕ). a ∷ l) (no_number ns (omega arith))
 
-set_is : (line rest : List ℕ) (o : Three) → line ≡ word_set ++ rest → IsThree rest o → Is line (says_set o)
-set_is line rest (Three.Numbers s k v) e i = (e ∙ ap (λ (l : List ℕ). word_set ++ l) i.0, i.1)
-set_is line rest Three.Wrong e i = tt
+two_numbers : (ns : List ℕ) → length ns ≡ 2 → get_or ns 0 0 ∷ get_or ns 1 0 ∷ [] ≡ ns
+two_numbers [] e = absurd (omega arith)
+two_numbers (a ∷ ns) e = ap (λ (l : List ℕ). a ∷ l) (one_number ns (omega arith))
 
-cut_is : (line rest : List ℕ) (o : Two) → line ≡ word_cut ++ rest → IsTwo rest o → Is line (says_cut o)
-cut_is line rest (Two.Numbers s k) e i = (e ∙ ap (λ (l : List ℕ). word_cut ++ l) i.0, i.1)
-cut_is line rest Two.Wrong e i = tt
+three_numbers : (ns : List ℕ) → length ns ≡ 3 → get_or ns 0 0 ∷ get_or ns 1 0 ∷ get_or ns 2 0 ∷ [] ≡ ns
+three_numbers [] e = absurd (omega arith)
+three_numbers (a ∷ ns) e = ap (λ (l : List ℕ). a ∷ l) (two_numbers ns (omega arith))
 
-drop_is : (line rest : List ℕ) (o : One) → line ≡ word_drop ++ rest → IsOne rest o → Is line (says_drop o)
-drop_is line rest (One.Number s) e i = (e ∙ ap (λ (l : List ℕ). word_drop ++ l) i.0, i.1)
-drop_is line rest One.Wrong e i = tt
+word_is : (f : List ℕ → Command) (k : ℕ) (line : List ℕ) → ((ns : List ℕ) → name (f ns) ≡ name (f [])) →
+    ((ns : List ℕ) → length ns ≡ k → numbers (f ns) ≡ ns) → begins (name (f [])) line ≡ true →
+    Is line (option_map f (fields k (drop (length (name (f []))) line)))
+word_is f k line n m e = go (fields k rest) (fields_is k rest)
+  where
+    rest : List ℕ
+    rest = drop (length (name (f []))) line
 
-get_is : (line rest : List ℕ) (o : Two) → line ≡ word_get ++ rest → IsTwo rest o → Is line (says_get o)
-get_is line rest (Two.Numbers s k) e i = (e ∙ ap (λ (l : List ℕ). word_get ++ l) i.0, i.1)
-get_is line rest Two.Wrong e i = tt
-
-list_is : (line rest : List ℕ) (o : One) → line ≡ word_list ++ rest → IsOne rest o → Is line (says_list o)
-list_is line rest (One.Number s) e i = (e ∙ ap (λ (l : List ℕ). word_list ++ l) i.0, i.1)
-list_is line rest One.Wrong e i = tt
+    go : (o : Option (List ℕ)) → IsFields k rest o → Is line (option_map f o)
+    go None i = tt
+    go (Some ns) i = (begins_is (name (f [])) line e refl ∙ rw (n ns, m ns i.2, i.0), rw (m ns i.2) i.1)
 
 read_is : (line : List ℕ) → Is line (read line)
 unfolding read
 read_is line =
-    fork (Is line) (begins word_new line) (λ e. new_is line (drop 3 line) (begins_is word_new line e)) λ _.
-    fork (Is line) (begins word_hold line) (λ e. hold_is line (drop 4 line) (one_in (drop 4 line)) (begins_is word_hold line e) (one_is (drop 4 line))) λ _.
-    fork (Is line) (begins word_set line) (λ e. set_is line (drop 3 line) (three_in (drop 3 line)) (begins_is word_set line e) (three_is (drop 3 line))) λ _.
-    fork (Is line) (begins word_cut line) (λ e. cut_is line (drop 3 line) (two_in (drop 3 line)) (begins_is word_cut line e) (two_is (drop 3 line))) λ _.
-    fork (Is line) (begins word_drop line) (λ e. drop_is line (drop 4 line) (one_in (drop 4 line)) (begins_is word_drop line e) (one_is (drop 4 line))) λ _.
-    fork (Is line) (begins word_get line) (λ e. get_is line (drop 3 line) (two_in (drop 3 line)) (begins_is word_get line e) (two_is (drop 3 line))) λ _.
-    fork (Is line) (begins word_list line) (λ e. list_is line (drop 4 line) (one_in (drop 4 line)) (begins_is word_list line e) (one_is (drop 4 line))) λ _. tt
+    fork (Is line) (begins word_new line) (word_is as_new 0 line (λ ns. refl) no_number) λ _.
+    fork (Is line) (begins word_hold line) (word_is as_hold 1 line (λ ns. refl) one_number) λ _.
+    fork (Is line) (begins word_set line) (word_is as_set 3 line (λ ns. refl) three_numbers) λ _.
+    fork (Is line) (begins word_cut line) (word_is as_cut 2 line (λ ns. refl) two_numbers) λ _.
+    fork (Is line) (begins word_drop line) (word_is as_drop 1 line (λ ns. refl) one_number) λ _.
+    fork (Is line) (begins word_get line) (word_is as_get 2 line (λ ns. refl) two_numbers) λ _.
+    fork (Is line) (begins word_list line) (word_is as_list 1 line (λ ns. refl) one_number) λ _. tt
 
 -- The reading is the one that the contract asks.
 reads : (line : List ℕ) → Reads line (read line)
 reads line = record { said = go (read line) refl (read_is line) }
   where
-    go : (r : Line) → read line ≡ r → Is line r → Said line r
-    go (Line.Says c) e i = i
-    go Line.Unknown e i = λ c w t.
-        let u : Line.Says c ≡ Line.Unknown = sym (read_text c w) ∙ ap read (sym t) ∙ e in
-        let z : ◌≡◌ {A = ℕ} 0 1 = cc in
-        omega arith
+    go : (r : Option Command) → read line ≡ r → Is line r → Said line r
+    go (Some c) e i = i
+    go None e i = λ c w t. none-some c (sym (sym (read_text c w) ∙ ap read (sym t) ∙ e))
 
-as_read : {line : List ℕ} {r : Line} → read line ≡ r → Reads line r
+as_read : {line : List ℕ} {r : Option Command} → read line ≡ r → Reads line r
 as_read {line} e = subst (Reads line) e (reads line)
 
--- Each way in which the function returns.
+-- Each way in which the function returns: behind the word there are such numbers, or there are not.
 
-found : {b : Bool} (word line : List ℕ) → b ≡ begins word line → b ≡ true → line ≡ word ++ drop (length word) line
-found word line e t = begins_is word line (sym e ∙ t)
+module _ {line : List ℕ} {o : Option (List ℕ)} where
+  pub wrong : {r : Option Command} (f : List ℕ → Command) → Reads line (option_map f o) → o ≡ None → r ≡ None → Reads line r
+  wrong f w e m = subst (Reads line) (ap (option_map f) e ∙ sym m) w
 
-pub new_read : {line : List ℕ} {b : Bool} {r : Line} → b ≡ begins word_new line → b ≡ true → r ≡ says_new (drop 3 line) → Reads line r
-unfolding read begins
-new_read {line} e t m = as_read (ap read (found word_new line e t) ∙ sym m)
+  pub right : {ns : List ℕ} (f : List ℕ → Command) → Reads line (option_map f o) → o ≡ Some ns → Reads line (Some (f ns))
+  right f w e = subst (Reads line) (ap (option_map f) e) w
 
-pub hold_read : {line : List ℕ} {b : Bool} {o : One} {r : Line} → b ≡ begins word_hold line → b ≡ true → o ≡ one_in (drop 4 line) → r ≡ says_hold o → Reads line r
-unfolding read begins
-hold_read {line} e t n m = as_read (ap read (found word_hold line e t) ∙ sym (m ∙ ap says_hold n))
+module _ {line rest : List ℕ} {o : Option (List ℕ)} where
+  pub new_read : line ≡ word_new ++ rest → o ≡ fields 0 rest → Reads line (option_map as_new o)
+  unfolding read
+  new_read e n = as_read (ap read e ∙ ap (option_map as_new) (sym n))
 
-pub set_read : {line : List ℕ} {b : Bool} {o : Three} {r : Line} → b ≡ begins word_set line → b ≡ true → o ≡ three_in (drop 3 line) → r ≡ says_set o → Reads line r
-unfolding read begins
-set_read {line} e t n m = as_read (ap read (found word_set line e t) ∙ sym (m ∙ ap says_set n))
+  pub hold_read : line ≡ word_hold ++ rest → o ≡ fields 1 rest → Reads line (option_map as_hold o)
+  unfolding read
+  hold_read e n = as_read (ap read e ∙ ap (option_map as_hold) (sym n))
 
-pub cut_read : {line : List ℕ} {b : Bool} {o : Two} {r : Line} → b ≡ begins word_cut line → b ≡ true → o ≡ two_in (drop 3 line) → r ≡ says_cut o → Reads line r
-unfolding read begins
-cut_read {line} e t n m = as_read (ap read (found word_cut line e t) ∙ sym (m ∙ ap says_cut n))
+  pub set_read : line ≡ word_set ++ rest → o ≡ fields 3 rest → Reads line (option_map as_set o)
+  unfolding read
+  set_read e n = as_read (ap read e ∙ ap (option_map as_set) (sym n))
 
-pub drop_read : {line : List ℕ} {b : Bool} {o : One} {r : Line} → b ≡ begins word_drop line → b ≡ true → o ≡ one_in (drop 4 line) → r ≡ says_drop o → Reads line r
-unfolding read begins
-drop_read {line} e t n m = as_read (ap read (found word_drop line e t) ∙ sym (m ∙ ap says_drop n))
+  pub cut_read : line ≡ word_cut ++ rest → o ≡ fields 2 rest → Reads line (option_map as_cut o)
+  unfolding read
+  cut_read e n = as_read (ap read e ∙ ap (option_map as_cut) (sym n))
 
-pub get_read : {line : List ℕ} {b : Bool} {o : Two} {r : Line} → b ≡ begins word_get line → b ≡ true → o ≡ two_in (drop 3 line) → r ≡ says_get o → Reads line r
-unfolding read begins
-get_read {line} e t n m = as_read (ap read (found word_get line e t) ∙ sym (m ∙ ap says_get n))
+  pub drop_read : line ≡ word_drop ++ rest → o ≡ fields 1 rest → Reads line (option_map as_drop o)
+  unfolding read
+  drop_read e n = as_read (ap read e ∙ ap (option_map as_drop) (sym n))
 
-pub list_read : {line : List ℕ} {b : Bool} {o : One} {r : Line} → b ≡ begins word_list line → b ≡ true → o ≡ one_in (drop 4 line) → r ≡ says_list o → Reads line r
-unfolding read begins
-list_read {line} e t n m = as_read (ap read (found word_list line e t) ∙ sym (m ∙ ap says_list n))
+  pub get_read : line ≡ word_get ++ rest → o ≡ fields 2 rest → Reads line (option_map as_get o)
+  unfolding read
+  get_read e n = as_read (ap read e ∙ ap (option_map as_get) (sym n))
 
-pub none_read : (line : List ℕ) → begins word_new line ≡ false → begins word_hold line ≡ false → begins word_set line ≡ false →
-    begins word_cut line ≡ false → begins word_drop line ≡ false → begins word_get line ≡ false → begins word_list line ≡ false →
-    Reads line Line.Unknown
-unfolding read
-none_read line a b c d e f g = as_read (rw (a, b, c, d, e, f, g))
+  pub list_read : line ≡ word_list ++ rest → o ≡ fields 1 rest → Reads line (option_map as_list o)
+  unfolding read
+  list_read e n = as_read (ap read e ∙ ap (option_map as_list) (sym n))
 
 -- The text of a command is no other command's: the reading is the only one.
 pub one_command : (c d : Command) → Within (numbers c) → Within (numbers d) → text c ≡ text d → c ≡ d
-one_command c d v w e = let u : Line.Says c ≡ Line.Says d = sym (read_text c v) ∙ ap read e ∙ read_text d w in cc
+one_command c d v w e = same_Some c d (sym (read_text c v) ∙ ap read e ∙ read_text d w)
 
 -- The sample's line `set 0 2625619 7`, RULES 9.16.
 example_set :

@@ -1,8 +1,7 @@
 -- What the program reads, as bytes: RULES 9.2 to 9.12.
-use Rattle.std.specs.Prelude.{ℕ, ◌≤◌, ◌≡◌, List, [], ◌∷◌, ◌++◌}
+use Rattle.std.specs.Prelude.{ℕ, ◌≤◌, ◌≡◌, List, [], ◌∷◌, ◌++◌, Option, None, Some}
 use Rattle.decimal.specs.Decimal.{largest, digits}
 use Rattle.commands.specs.declared.Command.{Command}
-use Rattle.commands.specs.declared.Line.{Line}
 
 -- The words of RULES 9.6 to 9.12, letter by letter.
 abbrev pub name : Command → List ℕ
@@ -41,9 +40,9 @@ Within (n ∷ ns) = (n ≤ largest) × Within ns
 
 -- A line says a command exactly when it is the command's text and no number is above the largest;
 -- any other line is unknown, "none of these commands" (RULES 9.14).
-abbrev pub Said : List ℕ → Line → Type 0
-Said line (Line.Says c) = (line ≡ text c) × Within (numbers c)
-Said line Line.Unknown = (c : Command) → Within (numbers c) → line ≡ text c → ⊥
+abbrev pub Said : List ℕ → Option Command → Type 0
+Said line (Some c) = (line ≡ text c) × Within (numbers c)
+Said line None = (c : Command) → Within (numbers c) → line ≡ text c → ⊥
 
-pub record Reads (line : List ℕ) (r : Line) : Type 0 where
+pub record Reads (line : List ℕ) (r : Option Command) : Type 0 where
   pub said : Said line r
