@@ -85,3 +85,9 @@ module _ {size k at : ℕ} {line numbers : List ℕ} (t : Taking size line numbe
   pub taking_all : length line ≤ at → Some numbers ≡ fields size line
   unfolding fields in_front
   taking_all h = sym (rw (drop_of_length-le line h, take_all k numbers (omega (arith, t.room)), append-nil) at none_left)
+
+-- What `field` and `fields` take.
+
+pub ruleset spaces = (field_end, field_no_space, field_on)
+
+pub ruleset takings = (taking_wrong, taking_longer, taking_all)

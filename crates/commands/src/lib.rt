@@ -21,6 +21,7 @@ pub enum Command {
 }
 
 // The number after a space at the place, and the place after it.
+#[tactic(auto, using(crate::proofs::Finding::spaces))]
 fn field(line: &[u8], at: usize) -> Option<(u32, usize)>
     ensures { Finds line.now result (fieldIn (drop at line.now)) }
 {
@@ -31,6 +32,7 @@ fn field(line: &[u8], at: usize) -> Option<(u32, usize)>
 }
 
 // So many fields, up to the line's end.
+#[tactic(auto, using(crate::proofs::Finding::takings))]
 fn fields<const N: usize>(line: &[u8]) -> Option<[u32; N]>
     ensures { result ≡ fieldsIn N line.now }
 {

@@ -141,3 +141,9 @@ module _ (line : List ℕ) (at : ℕ) {r : Option ℕ} (e : r ≡ digit_in (drop
   number_on {d} {o} m w =
       let f = front (drop at line) d (sym e ∙ m) in
       record { found = w.found ∙ ap (number_from d) (sym (rest_is line at d (sym e ∙ m) f)) ∙ sym (first_is f.text_is f.digit f.value) }
+
+-- What `number_from` and `number` take.
+
+pub ruleset later_digits = (digit_inside, from_no_digit, from_leading, from_too_large, from_on)
+
+pub ruleset first_digit = (digit_inside, number_no_digit, number_on)

@@ -79,3 +79,9 @@ module _ {out : List ℕ} {at : ℕ} (n : ℕ) (h : HasRoom out at (digits n)) w
 -- A number of 32 bits has at most ten digits.
 pub short : {n : ℕ} → Fits w32 n → length (digits n) ≤ 10
 short {n} f = digits_short 9 n (omega (arith, f.fits))
+
+-- Where the digits of a number go, and how far what was written reaches.
+
+pub ruleset digit_places = (first_inside, last_inside, written_length)
+
+pub ruleset reaches = (short, written_length)

@@ -23,6 +23,7 @@ fn with_digit(value: u32, digit: u32) -> Option<u32>
 
 // The number whose digits go on at the place, after those that made the value, and the place after
 // it. A 0 takes no digit after it (RULES 9.5).
+#[tactic(auto, using(crate::proofs::Finding::later_digits))]
 fn number_from(line: &[u8], at: usize, value: u32) -> Option<(u32, usize)>
     ensures { Finds line.now result (number_from value (drop at line.now)) }
 {
@@ -37,6 +38,7 @@ fn number_from(line: &[u8], at: usize, value: u32) -> Option<(u32, usize)>
 }
 
 // The number at the place, if one stands there, and the place after it.
+#[tactic(auto, using(crate::proofs::Finding::first_digit))]
 pub fn number(line: &[u8], at: usize) -> Option<(u32, usize)>
     ensures { Finds line.now result (number_in (drop at line.now)) }
 {
@@ -54,6 +56,7 @@ fn digit_byte(d: u32) -> u8
 
 // Writes the bytes at the place and answers the place after them. A writer struct or `write!` would
 // be no plainer: `Written` speaks of the buffer, both places and the bytes, as the call here does.
+#[tactic(auto, using(crate::proofs::Writing::copied))]
 pub fn put_text(out: &mut [u8], at: usize, text: &[u8]) -> usize
     requires { HasRoom out.old at text.now }
     ensures { Written out.old at text.now out.new result }
@@ -64,6 +67,7 @@ pub fn put_text(out: &mut [u8], at: usize, text: &[u8]) -> usize
 }
 
 // Writes the decimal text of the number (RULES 9.5).
+#[tactic(auto, using(crate::proofs::Writing::digit_places))]
 pub fn put_number(out: &mut [u8], at: usize, n: u32) -> usize
     requires { HasRoom out.old at (digits n) }
     ensures { Written out.old at (digits n) out.new result }

@@ -8,7 +8,7 @@ ghost use Rattle.replies.specs.Text.{reply, longest};
 
 use decimal::{put_number, put_text};
 
-// An answer that takes one line.
+// An answer that takes one line. A refusal is its number here, since that is all that the line says.
 #[derive(Clone, Copy)]
 pub enum Reply {
     Number(u32),
@@ -23,6 +23,7 @@ pub enum Reply {
 pub const LONGEST: usize = 22;
 
 // Writes the number and a line end.
+#[tactic(auto, using(decimal::proofs::Writing::reaches))]
 fn put_last(out: &mut [u8], at: usize, n: u32) -> usize
     requires { at + 11 ≤ length out.old }
     ensures { Written out.old at (digits n ++ 10 ∷ []) out.new result }
@@ -31,6 +32,7 @@ fn put_last(out: &mut [u8], at: usize, n: u32) -> usize
     put_text(out, next, b"\n")
 }
 
+#[tactic(auto, using(decimal::proofs::Writing::reaches, decimal::proofs::Writing::written_both))]
 fn put_refused(out: &mut [u8], at: usize, n: u32) -> usize
     requires { at + 13 ≤ length out.old }
     ensures { Written out.old at (reply (Reply.Refused n)) out.new result }
@@ -39,6 +41,7 @@ fn put_refused(out: &mut [u8], at: usize, n: u32) -> usize
     put_last(out, next, n)
 }
 
+#[tactic(auto, using(decimal::proofs::Writing::reaches))]
 fn put_entry(out: &mut [u8], at: usize, key: u32, value: u32) -> usize
     requires { at + 22 ≤ length out.old }
     ensures { Written out.old at (reply (Reply.Entry key value)) out.new result }
