@@ -1,2 +1,1 @@
-pub mod Keeping
 pub mod Listing

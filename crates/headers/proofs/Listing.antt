@@ -7,7 +7,6 @@ use mathlib.Core.Option.{Option, none, some}
 use Prim.Native.Nat.{ℕ, ◌-◌, ◌≤◌, ◌<◌}
 use native.Mathlib.Omega.{arith}
 use lib.Dec.{ltb, eqb}
-use lib.ListN.{length}
 use borrow.Author.Tests.{ltb-true}
 use Rattle.std.specs.Prelude.{if◌then◌else◌}
 use Rattle.trees.specs.Tree.{Entry, listing}
@@ -19,13 +18,9 @@ use Rattle.calls.specs.Call.{Walk, Call, Answer}
 use Rattle.calls.specs.Reading.{Tells, answer_by}
 use Rattle.calls.specs.Outcome.{Outcome}
 use Rattle.calls.proofs.Histories.{answer_accepts}
-use Rattle.calls.proofs.ReadingLaws.{readers_write_nothing}
 use Rattle.decimal.specs.Decimal.{largest}
-use Rattle.commands.specs.declared.Command.{Command}
 use Rattle.replies.specs.declared.Reply.{Reply}
-use Rattle.answering.specs.Answering.{walk_from, call_of, refusal_reply, reply_of, Small, Replies}
-use Rattle.headers.specs.declared.Place.{Place}
-use Rattle.headers.specs.Places.{Waits}
+use Rattle.answering.specs.Answering.{walk_from, refusal_reply, reply_of, Small, Replies}
 
 impossible : ◌≡◌ {A = ℕ} 0 1 → ⊥
 impossible z = omega arith
@@ -104,16 +99,7 @@ keys_fall {s} {m} {v} {ws} {ws'} {q} {r} l e w =
     go Reply.End f t h = omega arith
     go Reply.Unknown f t h = omega arith
 
--- A listing writes no word: its first line is the reply on the words that the others are read from.
-pub first_line : {c : Command} {s : ℕ} {ws ws' : List ℕ} {r : Reply} → c ≡ Command.List s → Replies (call_of c) ws r ws' →
-    Replies (call_of (Command.List s)) ws' r ws'
-first_line {c} {s} {ws} {ws'} {r} e q =
-    let w = subst (λ (d : Command). Replies (call_of d) ws r ws') e q in
-    subst (λ (us : List ℕ). Replies (call_of (Command.List s)) us r ws') (sym (readers_write_nothing refl w.outcome)) w
-
 -- What holds when a line has been given: it is that of a step after the last key before it, if any.
-pub record Giving (ws : List ℕ) (slot : ℕ) (before out : List ℕ) (p : Place) (r : Reply) : Type 0 where
-  pub waits : Waits out p
+pub record Giving (ws : List ℕ) (slot : ℕ) (r : Reply) : Type 0 where
   pub last : Option ℕ
   pub line : Replies (Call.step front (walk_from slot last)) ws r ws
-  pub same : length out ≡ length before

@@ -2,18 +2,17 @@
 // to standard output.
 #![tactic(auto)]
 
-ghost use Rattle.std.specs.Prelude.{◌≡◌, ◌+◌, ◌≤◌, length};
-ghost use Rattle.replies.specs.Text.{longest};
+ghost use Rattle.std.specs.Prelude.{◌≡◌, ◌≤◌, length};
 ghost use Rattle.answering.specs.Answering.{call_of, Replies};
-ghost use Rattle.headers.specs.Places.{Waits, Flushed, Ready};
+ghost use Rattle.headers.specs.declared.TheConstants.{LINE_ROOM, OUT_ROOM};
 
 use answering::{answer, listed};
 use arena::{MAX_NODES, MAX_SLOTS};
-use commands::{Command, Line, parse};
+use commands::{Command, parse};
 use ranges::LastKey;
 use red_black_tree_map::format;
 use replies::{LONGEST, Reply, put_reply};
-use std::io::Read;
+use std::io::{self, Read};
 
 // The words of the largest arena.
 const WORDS: usize = 12354;
@@ -28,265 +27,163 @@ const OUT_ROOM: usize = 65536;
 // The most bytes of one read.
 const IN_ROOM: usize = 65536;
 
-// How many bytes of the current line are kept, how many bytes of answers wait, whether the input has ended and whether a write failed.
-#[derive(Clone, Copy)]
-struct Place {
+// The line that is read, as far as it is kept.
+#[derive(Drop)]
+struct Line {
+    bytes: [u8; LINE_ROOM],
     kept: usize,
-    waiting: usize,
-    ended: bool,
-    failed: bool,
+    ghost within: { kept ≤ LINE_ROOM },
 }
 
-// Writes the answers that wait; after a failed write, none.
-fn flush(rt: &(impl Print + Eprint), out: &[u8], p: Place) -> Place
-    requires { Waits out.now p }
-    ensures { Flushed p result }
-{
-    let n = p.waiting;
-    let mut next = p;
-    next.waiting = 0;
-    if p.failed {
-        return next;
-    }
-    if rt.write_all(&out[..n]).is_err() {
-        let _ = rt.eprintln("headers: a write failed");
-        next.failed = true;
-    }
-    next
-}
-
-// The answer's line waits behind those that wait.
-fn put_here(out: &mut [u8], p: Place, r: Reply) -> Place
-    requires { p.waiting + longest ≤ length out.old }
-    ensures { Waits out.new result }
-{
-    let mut next = p;
-    let at = p.waiting;
-    next.waiting = put_reply(out, at, r);
-    next
-}
-
-// The answer's line waits to be written; where those that wait leave no room for it they are written first.
-fn put(rt: &(impl Print + Eprint), out: &mut [u8], p: Place, r: Reply) -> Place
-    requires { Waits out.old p }
-    ensures { Waits out.new result }
-{
-    if out.len() - LONGEST < p.waiting {
-        let next = flush(rt, out, p);
-        return put_here(out, next, r);
-    }
-    put_here(out, p, r)
-}
-
-// The lines of a listing after the first, up to its end.
-fn list_rest(
-    rt: &(impl Print + Eprint),
-    ws: &[u32],
-    out: &mut [u8],
-    p: Place,
-    slot: u32,
-    first: Reply,
-) -> Place
-    requires waits { Waits out.old p }
-    requires replies { Replies (call_of (Command.List slot)) ws.now first ws.now }
-    ensures { Waits out.new result }
-{
-    let mut next = p;
-    let mut reply = first;
-    loop {
-        let Reply::Entry(key, _) = reply else {
-            return next;
-        };
-        reply = listed(ws, slot, LastKey::Given(key));
-        next = put(rt, out, next, reply);
-    }
-}
-
-// Answers a command.
-fn run(rt: &(impl Print + Eprint), ws: &mut [u32], out: &mut [u8], p: Place, c: Command) -> Place
-    requires { Waits out.old p }
-    ensures { Waits out.new result }
-{
-    let first = answer(ws, c);
-    let next = put(rt, out, p, first);
-    match c {
-        Command::List(s) => list_rest(rt, ws, out, next, s, first),
-        _ => next,
-    }
-}
-
-// Answers the line that is kept.
-fn answer_line(
-    rt: &(impl Print + Eprint),
-    ws: &mut [u32],
-    line: &[u8],
-    out: &mut [u8],
-    p: Place,
-) -> Place
-    requires { Ready line.now out.old p }
-    ensures { Waits out.new result }
-{
-    let n = p.kept;
-    if LINE_BYTES < n {
-        return put(rt, out, p, Reply::Unknown);
-    }
-    match parse(&line[..n]) {
-        Line::Says(c) => run(rt, ws, out, p, c),
-        Line::Unknown => put(rt, out, p, Reply::Unknown),
-    }
-}
-
-// Ends the line.
-fn end_line(
-    rt: &(impl Print + Eprint),
-    ws: &mut [u32],
-    line: &[u8],
-    out: &mut [u8],
-    p: Place,
-) -> Place
-    requires { Ready line.now out.old p }
-    ensures { Ready line.now out.new result }
-{
-    let mut next = answer_line(rt, ws, line, out, p);
-    next.kept = 0;
-    next
-}
-
-// Keeps the byte, if the line is not too long already, or ends the line.
-fn take_byte(
-    rt: &(impl Print + Eprint),
-    ws: &mut [u32],
-    line: &mut [u8],
-    out: &mut [u8],
-    p: Place,
-    b: u8,
-) -> Place
-    requires { Ready line.old out.old p }
-    ensures { Ready line.new out.new result }
-{
-    if b == b'\n' {
-        return end_line(rt, ws, line, out, p);
-    }
-    let mut next = p;
-    let at = p.kept;
-    if at < line.len() {
-        line[at] = b;
-        next.kept = at + 1;
-    }
-    next
-}
-
-// Takes every byte that came.
-fn take_all(
-    rt: &(impl Print + Eprint),
-    ws: &mut [u32],
-    line: &mut [u8],
-    out: &mut [u8],
-    p: Place,
-    input: &[u8],
-) -> Place
-    requires { Ready line.old out.old p }
-    ensures { Ready line.new out.new result }
-{
-    let mut next = p;
-    let mut k = 0usize;
-    while k < input.len() {
-        next = take_byte(rt, ws, line, out, next, input[k]);
-        k += 1;
-    }
-    next
-}
-
-// Nothing more is read.
-fn ended(p: Place) -> Place
-    ensures { (result.kept ≡ p.kept) × (result.waiting ≡ p.waiting) }
-{
-    let mut last = p;
-    last.ended = true;
-    last
-}
-
-// Reads once, takes what came and writes the answers to it.
-fn read_some(
-    rt: &(impl Print + Eprint),
-    reader: &mut impl Read,
-    ws: &mut [u32],
-    line: &mut [u8],
-    out: &mut [u8],
-    p: Place,
-) -> Place
-    requires { Ready line.old out.old p }
-    ensures { Ready line.new out.new result }
-{
-    let mut input = [0u8; IN_ROOM];
-    match reader.read(&mut input) {
-        Ok(0) => ended(p),
-        Ok(n) => {
-            let next = take_all(rt, ws, line, out, p, &input[..n]);
-            flush(rt, out, next)
+impl Line {
+    // Keeps the byte, if the line is not too long already.
+    fn keep(&mut self, b: u8) {
+        if self.kept < LINE_ROOM {
+            self.bytes[self.kept] = b;
+            self.kept += 1;
         }
+    }
+
+    // The command that the line is the text of. One that is too long is no command's.
+    fn command(&self) -> Option<Command> {
+        if LINE_BYTES < self.kept {
+            return None;
+        }
+        parse(&self.bytes[..self.kept])
+    }
+}
+
+// The answers that wait to be written.
+#[derive(Drop)]
+struct Answers {
+    bytes: [u8; OUT_ROOM],
+    waiting: usize,
+    ghost within: { waiting ≤ OUT_ROOM },
+}
+
+impl Answers {
+    // Writes the answers that wait. None waits any more, after a failed write either.
+    fn flush(&mut self, rt: &impl Print) -> io::Result<()>
+        ensures { self.new.waiting ≡ 0 }
+    {
+        let n = self.waiting;
+        self.waiting = 0;
+        rt.write_all(&self.bytes[..n])
+    }
+
+    // The answer's line waits behind the others; where those leave no room for it they are written
+    // first.
+    fn put(&mut self, rt: &impl Print, reply: Reply) -> io::Result<()> {
+        if OUT_ROOM - LONGEST < self.waiting {
+            self.flush(rt)?;
+        }
+        self.waiting = put_reply(&mut self.bytes, self.waiting, reply);
+        Ok(())
+    }
+}
+
+// What a run of the program has: the arena, the line that is read and the answers that wait. An
+// `Err` is of a failed write, after which nothing more is read or written.
+#[derive(Drop)]
+struct Session {
+    words: [u32; WORDS],
+    line: Line,
+    answers: Answers,
+}
+
+impl Session {
+    // The lines of a listing after the first, up to its end.
+    fn list_rest(&mut self, rt: &impl Print, slot: u32, first: Reply) -> io::Result<()>
+        requires { Replies (call_of (Command.List slot)) self.old.words first self.old.words }
+    {
+        let mut reply = first;
+        while let Reply::Entry(key, _) = reply {
+            reply = listed(&self.words, slot, LastKey::Given(key));
+            self.answers.put(rt, reply)?;
+        }
+        Ok(())
+    }
+
+    // Answers a command.
+    fn run(&mut self, rt: &impl Print, command: Command) -> io::Result<()> {
+        let first = answer(&mut self.words, command);
+        self.answers.put(rt, first)?;
+        if let Command::List(slot) = command {
+            self.list_rest(rt, slot, first)?;
+        }
+        Ok(())
+    }
+
+    // Answers the line and begins the next.
+    fn end_line(&mut self, rt: &impl Print) -> io::Result<()> {
+        let said = self.line.command();
+        self.line.kept = 0;
+        match said {
+            Some(command) => self.run(rt, command),
+            None => self.answers.put(rt, Reply::Unknown),
+        }
+    }
+
+    // Takes every byte that came.
+    fn take_all(&mut self, rt: &impl Print, input: &[u8]) -> io::Result<()> {
+        for b in input {
+            if *b == b'\n' {
+                self.end_line(rt)?;
+            } else {
+                self.line.keep(*b);
+            }
+        }
+        Ok(())
+    }
+
+    // Reads to the input's end, and writes the answers to what came after each read. A last line
+    // without a line end counts. A proved loop has to end, and nothing says that an input does: so
+    // the turns are as many as no run uses up.
+    fn serve(&mut self, rt: &(impl Print + Eprint), reader: &mut impl Read) -> io::Result<()> {
+        let mut input = [0u8; IN_ROOM];
+        for _ in 0..u64::MAX {
+            let n = read_some(rt, reader, &mut input);
+            if n == 0 {
+                break;
+            }
+            self.take_all(rt, &input[..n])?;
+            self.answers.flush(rt)?;
+        }
+        if 0 < self.line.kept {
+            self.end_line(rt)?;
+            self.answers.flush(rt)?;
+        }
+        Ok(())
+    }
+}
+
+// Reads once: how many bytes came, which is none at the input's end or where the read failed.
+fn read_some(rt: &impl Eprint, reader: &mut impl Read, input: &mut [u8]) -> usize
+    ensures { result ≤ length input.new }
+{
+    match reader.read(input) {
+        Ok(n) => n,
         Err(_) => {
             let _ = rt.eprintln("headers: a read failed");
-            ended(p)
+            0
         }
-    }
-}
-
-// Reads to the input's end. A proved loop has to end, and nothing says that an input does: so the loop counts its turns down, from a
-// number that no run uses up.
-fn read_all(
-    rt: &(impl Print + Eprint),
-    reader: &mut impl Read,
-    ws: &mut [u32],
-    line: &mut [u8],
-    out: &mut [u8],
-    p: Place,
-) -> Place
-    requires { Ready line.old out.old p }
-    ensures { Ready line.new out.new result }
-{
-    let mut next = p;
-    let mut turns = u64::MAX;
-    while turns > 0 {
-        next = read_some(rt, reader, ws, line, out, next);
-        if next.ended {
-            return next;
-        }
-        if next.failed {
-            return next;
-        }
-        turns -= 1;
-    }
-    next
-}
-
-// A last line without a line end counts.
-fn serve(
-    rt: &(impl Print + Eprint),
-    reader: &mut impl Read,
-    ws: &mut [u32],
-    line: &mut [u8],
-    out: &mut [u8],
-)
-    requires { longest ≤ length out.old }
-{
-    let start = Place {
-        kept: 0,
-        waiting: 0,
-        ended: false,
-        failed: false,
-    };
-    let last = read_all(rt, reader, ws, line, out, start);
-    if 0 < last.kept {
-        let next = end_line(rt, ws, line, out, last);
-        flush(rt, out, next);
     }
 }
 
 fn main(rt: HostRuntime) {
-    let mut ws = [0u32; WORDS];
-    let mut line = [0u8; LINE_ROOM];
-    let mut out = [0u8; OUT_ROOM];
-    format(&mut ws, MAX_NODES, MAX_SLOTS);
-    serve(&rt, &mut rt.stdin(), &mut ws, &mut line, &mut out);
+    let mut session = Session {
+        words: [0; WORDS],
+        line: Line {
+            bytes: [0; LINE_ROOM],
+            kept: 0,
+        },
+        answers: Answers {
+            bytes: [0; OUT_ROOM],
+            waiting: 0,
+        },
+    };
+    format(&mut session.words, MAX_NODES, MAX_SLOTS);
+    if session.serve(&rt, &mut rt.stdin()).is_err() {
+        let _ = rt.eprintln("headers: a write failed");
+    }
 }

@@ -1,5 +1,5 @@
 use Rattle.headers.proofs.Listing.{entry_sound, keys_fall}
-use Rattle.headers.proofs.list_rest.Goals as goal
+use Rattle.headers.proofs.Session.list_rest.Goals as goal
 
 pub listed-reply-requires : goal.listed-reply-requires
 listed-reply-requires g c = entry_sound c.loop-reply.invariant.line c.in-Entry.is
