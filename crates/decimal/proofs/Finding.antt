@@ -5,15 +5,15 @@ use mathlib.Core.Bool.{Bool, true, false}
 use mathlib.Core.List.{List, [], ◌∷◌}
 use native.Mathlib.Omega.{arith}
 use native.Mathlib.Numerals.{add-one}
-use native.Mathlib.Decide.{dec_lt, dec_le}
+use native.Mathlib.Decide.{dec_lt}
 use lib.ListN.{length, get_or, drop, drop_of_length-le}
 use lib.Seq.{drop-cons}
-use borrow.Author.Tests.{le-leb, lt-leb}
+use Rattle.std.proofs.lemmas.Bool.Decides.{nat_tests}
 use Rattle.std.specs.Prelude.{Option, None, Some, SomeIff, MatchOption}
 use Rattle.std.specs.Char.{digit_value, NotDecimalDigitIn, IsDigitOf}
 use Rattle.std.specs.Prelude.{if◌then◌else◌}
 use Rattle.std.proofs.Common.{inl, inr}
-use Rattle.std.proofs.lemmas.Option.{none-some, same_Some}
+use Rattle.std.proofs.lemmas.Option.{same_Some}
 use Rattle.decimal.specs.Decimal.{largest}
 use Rattle.decimal.specs.Numbers.{is_digit, digit_in, number_from, number, Finds}
 use Rattle.decimal.proofs.Numbers.{from_digit, from_zero, from_large, from_other}
@@ -21,15 +21,10 @@ use Rattle.decimal.proofs.Numbers.{from_digit, from_zero, from_large, from_other
 -- A digit, as the library reads one.
 
 digit_yes : (b d : ℕ) → 48 ≤ b → b ≤ 57 → 48 + d ≡ b → is_digit b ≡ true
-digit_yes b d h i e = rw (le-leb 48 b h, le-leb b 57 i)
+digit_yes b d h i e = grind (arith, nat_tests)
 
 digit_no : (b : ℕ) → NotDecimalDigitIn 10 b → is_digit b ≡ false
-digit_no b n = go (dec_le 48 b) (dec_le b 57)
-  where
-    go : Dec (48 ≤ b) → Dec (b ≤ 57) → is_digit b ≡ false
-    go (no h) _ = rw (lt-leb 48 b (omega arith))
-    go (yes h) (no i) = rw (le-leb 48 b h, lt-leb b 57 (omega arith))
-    go (yes h) (yes i) = absurd (omega (arith, n h i))
+digit_no b n = grind (arith, nat_tests, n)
 
 pub digit_none : (line : List ℕ) (at : ℕ) → length line ≤ at → None ≡ digit_in (drop at line)
 unfolding digit_in
@@ -57,7 +52,7 @@ digit_inside line at d e = go (dec_lt at (length line))
   where
     go : Dec (at < length line) → at < length line
     go (yes h) = h
-    go (no h) = let n : None ≡ Some d = digit_none line at (omega arith) ∙ e in absurd (none-some d n)
+    go (no h) = let n : None ≡ Some d = digit_none line at (omega arith) ∙ e in cc
 
 -- One step of reading a number, by what stands at its front.
 
@@ -67,7 +62,7 @@ no_digit v [] e = refl
 no_digit v (b ∷ rest) e = go (is_digit b) refl e
   where
     go : (t : Bool) → is_digit b ≡ t → (if t then Some (b - 48) else None) ≡ None → number_from v (b ∷ rest) ≡ Some (v, b ∷ rest)
-    go true t e = absurd (none-some (b - 48) (sym e))
+    go true t e = cc
     go false t e = from_other v b rest t
 
 none_first : (text : List ℕ) → digit_in text ≡ None → number text ≡ None
@@ -76,7 +71,7 @@ none_first [] e = refl
 none_first (b ∷ rest) e = go (is_digit b) e
   where
     go : (t : Bool) → (if t then Some (b - 48) else None) ≡ None → (if t then number_from (b - 48) rest else None) ≡ None
-    go true e = absurd (none-some (b - 48) (sym e))
+    go true e = cc
     go false e = refl
 
 -- The digit and what follows it.
@@ -89,12 +84,12 @@ record Front (text : List ℕ) (d : ℕ) : Type 0 where
 
 front : (text : List ℕ) (d : ℕ) → digit_in text ≡ Some d → Front text d
 unfolding digit_in
-front [] d e = absurd (none-some d e)
+front [] d e = cc
 front (b ∷ rest) d e = go (is_digit b) refl e
   where
     go : (t : Bool) → is_digit b ≡ t → (if t then Some (b - 48) else None) ≡ Some d → Front (b ∷ rest) d
     go true t e = record { byte = b; rest = rest; text_is = refl; digit = t; value = sym (same_Some (b - 48) d e) }
-    go false t e = absurd (none-some d e)
+    go false t e = cc
 
 -- What follows the digit is what stands at the next place.
 rest_is : (line : List ℕ) (at d : ℕ) → digit_in (drop at line) ≡ Some d → (f : Front (drop at line) d) → f.rest ≡ drop (at + 1) line

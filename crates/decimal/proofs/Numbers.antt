@@ -1,12 +1,12 @@
 -- Numbers read from a text are the numbers whose text it is, both ways.
 use Prim.Native.Nat.{ℕ, ◌+◌, ◌-◌, ◌*◌, ◌/◌, ◌%◌, ◌≤◌, ◌<◌}
 use mathlib.Core.Path.{◌≡◌, refl, ◌∙◌}
-use mathlib.Core.Bool.{Bool, true, false, ◌&&◌, false≢true}
+use mathlib.Core.Bool.{Bool, true, false}
 use mathlib.Core.List.{List, [], ◌∷◌, ◌++◌, append_assoc}
 use native.Mathlib.Omega.{arith}
 use native.Mathlib.Decide.{dec_lt}
-use lib.Dec.{leb}
-use borrow.Author.Tests.{lt-ltb, le-ltb, le-leb, leb-true, ne_eqb}
+use Rattle.std.proofs.lemmas.Bool.Decides.{nat_tests}
+use borrow.Author.Tests.{lt-ltb, le-ltb, ne_eqb}
 use Rattle.std.specs.Prelude.{Option, None, Some, if◌then◌else◌}
 use Rattle.decimal.specs.Decimal.{largest, digit, digits}
 use Rattle.decimal.specs.Numbers.{is_digit, number_from, number}
@@ -14,14 +14,10 @@ use Rattle.decimal.proofs.Digits.{along, digits-one, digits_more, digits_append}
 
 -- The digits are the bytes 48 to 57.
 digit_is : (d : ℕ) → d < 10 → is_digit (digit d) ≡ true
-digit_is d h = rw (le-leb 48 (48 + d) (omega arith), le-leb (48 + d) 57 (omega arith))
-
-both : (a b : Bool) → a && b ≡ true → (a ≡ true) × (b ≡ true)
-both true b e = (refl, e)
-both false b e = absurd (false≢true e)
+digit_is d h = grind (arith, nat_tests)
 
 pub digit_bounds : (b : ℕ) → is_digit b ≡ true → (48 ≤ b) × (b ≤ 57)
-digit_bounds b e = let p = both (leb 48 b) (leb b 57) e in (leb-true 48 b p.0, leb-true b 57 p.1)
+digit_bounds b e = (grind (arith, nat_tests), grind (arith, nat_tests))
 
 -- One step of reading a number, by its four cases.
 

@@ -22,12 +22,9 @@ use Rattle.decimal.specs.Decimal.{largest}
 use Rattle.replies.specs.declared.Reply.{Reply}
 use Rattle.answering.specs.Answering.{walk_from, refusal_reply, reply_of, Small, Replies}
 
-impossible : ◌≡◌ {A = ℕ} 0 1 → ⊥
-impossible z = omega arith
-
 -- The first entry that a test keeps passes it.
 first_kept : (p : Entry → Bool) (xs : List Entry) (e : Entry) → first_of (keep p xs) ≡ some e → p e ≡ true
-first_kept p [] e h = absurd (impossible (cc))
+first_kept p [] e h = cc
 first_kept p (x ∷ xs) e h = go (p x) refl h (first_kept p xs e)
   where
     go : (b : Bool) → p x ≡ b → first_of (if b then x ∷ keep p xs else keep p xs) ≡ some e → (first_of (keep p xs) ≡ some e → p e ≡ true) → p e ≡ true
@@ -35,34 +32,34 @@ first_kept p (x ∷ xs) e h = go (p x) refl h (first_kept p xs e)
     go false t h f = f h
 
 found : (o : Option Entry) (e : Entry) → answer_by Answer.entry o ≡ some (Answer.entry e) → o ≡ some e
-found none e h = absurd (impossible (cc))
+found none e h = cc
 found (some x) e h = let i : x ≡ e = cc in ap some i
 
 refused_no : (r : Refusal) (k v : ℕ) → Reply.Entry k v ≡ refusal_reply r → ⊥
 refused_no r k v h = go (eqb (number r) 8) h
   where
     go : (b : Bool) → Reply.Entry k v ≡ (if b then Reply.End else Reply.Refused (number r)) → ⊥
-    go true h = impossible (cc)
-    go false h = impossible (cc)
+    go true h = cc
+    go false h = cc
 
 -- Only an entry is written as one.
 entry-written : (k v : ℕ) (a : Answer) → Reply.Entry k v ≡ reply_of a → (e : Entry) × (a ≡ Answer.entry e) × (k ≡ e.key)
 entry-written k v (Answer.refused r) h = absurd (refused_no r k v h)
-entry-written k v Answer.done h = absurd (impossible (cc))
-entry-written k v (Answer.slot q) h = absurd (impossible (cc))
-entry-written k v (Answer.number n) h = absurd (impossible (cc))
-entry-written k v (Answer.value x) h = absurd (impossible (cc))
+entry-written k v Answer.done h = cc
+entry-written k v (Answer.slot q) h = cc
+entry-written k v (Answer.number n) h = cc
+entry-written k v (Answer.value x) h = cc
 entry-written k v (Answer.entry e) h = (e, refl, cc)
-entry-written k v (Answer.sign d) h = absurd (impossible (cc))
-entry-written k v (Answer.truth b) h = absurd (impossible (cc))
-entry-written k v (Answer.difference d) h = absurd (impossible (cc))
+entry-written k v (Answer.sign d) h = cc
+entry-written k v (Answer.truth b) h = cc
+entry-written k v (Answer.difference d) h = cc
 
 -- So a line that is an entry is what an accepted step told.
 told : {w : Walk} {ws ws' : List ℕ} {r : Reply} {k v : ℕ} → Replies (Call.step front w) ws r ws' → r ≡ Reply.Entry k v →
     (e : Entry) × (k ≡ e.key) × Tells ws w.slot (λ xs. answer_by Answer.entry (next front w.range xs)) (Answer.entry e) ws'
 told {w} {ws} {ws'} {r} {k} {v} q h =
     let x = entry-written k v q.answer (sym h ∙ q.replies.reply) in
-    (x.0, x.2, answer_accepts (subst (λ (a : Answer). Outcome (Call.step front w) ws a ws') x.1 q.outcome) (λ r z. impossible (cc)))
+    (x.0, x.2, answer_accepts (subst (λ (a : Answer). Outcome (Call.step front w) ws a ws') x.1 q.outcome) (λ r z. cc))
 
 pub entry_sound : {w : Walk} {ws ws' : List ℕ} {r : Reply} {k v : ℕ} → Replies (Call.step front w) ws r ws' → r ≡ Reply.Entry k v → Sound ws
 entry_sound q h = (told q h).2.before
@@ -78,12 +75,8 @@ above {s} {m} q h =
 
 -- What is left of the keys when a line has been given.
 abbrev pub keys_left : Reply → ℕ
-keys_left (Reply.Number n) = 0
-keys_left Reply.Done = 0
-keys_left (Reply.Refused n) = 0
 keys_left (Reply.Entry k v) = 4294967296 - k
-keys_left Reply.End = 0
-keys_left Reply.Unknown = 0
+keys_left _ = 0
 
 pub keys_fall : {s m v : ℕ} {ws ws' : List ℕ} {q r : Reply} → Small q → q ≡ Reply.Entry m v →
     Replies (Call.step front (walk_from s (some m))) ws r ws' → keys_left r < keys_left q
