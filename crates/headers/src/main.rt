@@ -2,7 +2,7 @@
 // to standard output.
 #![tactic(auto)]
 
-ghost use Rattle.std.specs.Prelude.{◌≡◌, ◌≤◌, length};
+ghost use Rattle.std.specs.Prelude.{◌≡◌, ◌≤◌};
 ghost use Rattle.answering.specs.Answering.{call_of, Replies};
 ghost use Rattle.headers.specs.declared.TheConstants.{LINE_ROOM, OUT_ROOM};
 
@@ -142,11 +142,10 @@ impl Session {
     fn serve(&mut self, rt: &(impl Print + Eprint), reader: &mut impl Read) -> io::Result<()> {
         let mut input = [0u8; IN_ROOM];
         for _ in 0..u64::MAX {
-            let n = read_some(rt, reader, &mut input);
-            if n == 0 {
+            let Some(came) = read_some(rt, reader, &mut input) else {
                 break;
-            }
-            self.take_all(rt, &input[..n])?;
+            };
+            self.take_all(rt, came)?;
             self.answers.flush(rt)?;
         }
         if 0 < self.line.kept {
@@ -157,15 +156,18 @@ impl Session {
     }
 }
 
-// Reads once: how many bytes came, which is none at the input's end or where the read failed.
-fn read_some(rt: &impl Eprint, reader: &mut impl Read, input: &mut [u8]) -> usize
-    ensures { result ≤ length input.new }
-{
+// Reads once: the bytes that came, if any did. None do at the input's end and where a read fails.
+fn read_some<'a>(
+    rt: &impl Eprint,
+    reader: &mut impl Read,
+    input: &'a mut [u8],
+) -> Option<&'a [u8]> {
     match reader.read(input) {
-        Ok(n) => n,
+        Ok(0) => None,
+        Ok(n) => Some(&input[..n]),
         Err(_) => {
             let _ = rt.eprintln("headers: a read failed");
-            0
+            None
         }
     }
 }
