@@ -1,102 +1,95 @@
-// Makes the call of a line, LENGTH CODE ARGUMENTS.. STATUS VALUES.., and says whether its answer is the line's.
-use super::expected::{
-    difference_there, done_there, entry_at, entry_there, number_there, sign_there, slot_there,
-    truth_there, value_there,
-};
+// Makes the call of a line, LENGTH CODE ARGUMENTS.. STATUS VALUES.., and says whether its answer is
+// the line's.
+use super::expected::says;
 use super::listing::listed;
-use super::numbers::NUMBERS;
-use differing::Differences;
-use passing::differences::differences_in;
+use super::numbers::Line;
+use arena::Entry;
+use passing::differences::{differences_in, pass_difference};
 use passing::walks::walk_in;
+use passing::{pass_done, pass_entry, pass_number, pass_sign, pass_slot, pass_truth, pass_value};
 use red_black_tree_map::{
     compare, equal, first, get, hold, insert, last, new_version, release, remove, rescale_mark,
     size, step_back, step_difference, step_front,
 };
-use walking::Walk;
 
-// The codes of the calls, those of oracle/list.
-const NEW: u32 = 1;
-
-const HOLD: u32 = 2;
-
-const RELEASE: u32 = 3;
-
-const SIZE: u32 = 4;
-
-const GET: u32 = 5;
-
-const FIRST: u32 = 6;
-
-const LAST: u32 = 7;
-
-const INSERT: u32 = 8;
-
-const REMOVE: u32 = 9;
-
-const COMPARE: u32 = 10;
-
-const EQUAL: u32 = 11;
-
-const STEP_FRONT: u32 = 12;
-
-const STEP_BACK: u32 = 13;
-
-const RESCALE_MARK: u32 = 14;
-
-const LIST: u32 = 15;
-
-const STEP_DIFFERENCE: u32 = 16;
-
-// The walk of the line: nine numbers from the slot on.
-fn walk_of(line: &[u32; NUMBERS]) -> Walk {
-    let w = [
-        line[2], line[3], line[4], line[5], line[6], line[7], line[8], line[9], line[10],
-    ];
-    walk_in(&w)
+// The calls, and the list's last line, which says how many calls stand above it.
+#[derive(Clone, Copy)]
+pub enum Code {
+    Finish,
+    New,
+    Hold,
+    Release,
+    Size,
+    Get,
+    First,
+    Last,
+    Insert,
+    Remove,
+    Compare,
+    Equal,
+    StepFront,
+    StepBack,
+    RescaleMark,
+    List,
+    StepDifference,
 }
 
-// What an audit has kept, of the line: four numbers from the first slot on.
-fn differences_of(line: &[u32; NUMBERS]) -> Differences {
-    let at = [line[2], line[3], line[4], line[5]];
-    differences_in(&at)
-}
+// A number that is no call's code.
+#[derive(Clone, Copy)]
+pub struct NoCode;
 
-// Whether a call that only reads is answered as the line says. The status stands after the arguments, which start at 2.
-fn read(ws: &[u32], line: &[u32; NUMBERS], count: usize) -> bool {
-    let code = line[1];
-    let s = line[2];
-    let k = line[3];
-    match code {
-        SIZE => number_there(line, count, 3, size(ws, s)),
-        GET => value_there(line, count, 4, get(ws, s, k)),
-        FIRST => entry_there(line, count, 3, first(ws, s)),
-        LAST => entry_there(line, count, 3, last(ws, s)),
-        COMPARE => sign_there(line, count, 4, compare(ws, s, k)),
-        EQUAL => truth_there(line, count, 4, equal(ws, s, k)),
-        STEP_FRONT => entry_there(line, count, 11, step_front(ws, walk_of(line))),
-        STEP_BACK => entry_there(line, count, 11, step_back(ws, walk_of(line))),
-        RESCALE_MARK => truth_there(line, count, 3, rescale_mark(ws, s)),
-        LIST => listed(ws, line, count),
-        STEP_DIFFERENCE => difference_there(
-            line,
-            count,
-            6,
-            step_difference(ws, differences_of(line)),
-        ),
-        _ => false,
+// The codes are those of oracle/list.
+impl TryFrom<u32> for Code {
+    type Error = NoCode;
+
+    fn try_from(code: u32) -> Result<Self, NoCode> {
+        match code {
+            0 => Ok(Code::Finish),
+            1 => Ok(Code::New),
+            2 => Ok(Code::Hold),
+            3 => Ok(Code::Release),
+            4 => Ok(Code::Size),
+            5 => Ok(Code::Get),
+            6 => Ok(Code::First),
+            7 => Ok(Code::Last),
+            8 => Ok(Code::Insert),
+            9 => Ok(Code::Remove),
+            10 => Ok(Code::Compare),
+            11 => Ok(Code::Equal),
+            12 => Ok(Code::StepFront),
+            13 => Ok(Code::StepBack),
+            14 => Ok(Code::RescaleMark),
+            15 => Ok(Code::List),
+            16 => Ok(Code::StepDifference),
+            _ => Err(NoCode),
+        }
     }
 }
 
-// Whether the call of a line of so many numbers is answered as the line says.
-pub fn answered(ws: &mut [u32], line: &[u32; NUMBERS], count: usize) -> bool {
-    let code = line[1];
-    let s = line[2];
+// Whether the call of a line is answered as the line says. The status stands after the arguments,
+// which start at 2; a call takes as many of them as it has.
+pub fn answered(ws: &mut [u32], line: &Line, code: Code) -> bool {
+    let [s, k, value] = line.arguments::<3>();
+    let w = walk_in(&line.arguments());
+    let x = differences_in(&line.arguments());
     match code {
-        NEW => slot_there(line, count, 2, new_version(ws)),
-        HOLD => slot_there(line, count, 3, hold(ws, s)),
-        RELEASE => done_there(line, count, 3, release(ws, s)),
-        INSERT => slot_there(line, count, 5, insert(ws, s, entry_at(line, 3))),
-        REMOVE => slot_there(line, count, 4, remove(ws, s, line[3])),
-        _ => read(ws, line, count),
+        // The list's last line makes no call.
+        Code::Finish => false,
+        Code::New => says(line, 2, new_version(ws), pass_slot),
+        Code::Hold => says(line, 3, hold(ws, s), pass_slot),
+        Code::Release => says(line, 3, release(ws, s), |a, _: &mut [u32; 0]| pass_done(a)),
+        Code::Size => says(line, 3, size(ws, s), pass_number),
+        Code::Get => says(line, 4, get(ws, s, k), pass_value),
+        Code::First => says(line, 3, first(ws, s), pass_entry),
+        Code::Last => says(line, 3, last(ws, s), pass_entry),
+        Code::Insert => says(line, 5, insert(ws, s, Entry { key: k, value }), pass_slot),
+        Code::Remove => says(line, 4, remove(ws, s, k), pass_slot),
+        Code::Compare => says(line, 4, compare(ws, s, k), pass_sign),
+        Code::Equal => says(line, 4, equal(ws, s, k), pass_truth),
+        Code::StepFront => says(line, 11, step_front(ws, w), pass_entry),
+        Code::StepBack => says(line, 11, step_back(ws, w), pass_entry),
+        Code::RescaleMark => says(line, 3, rescale_mark(ws, s), pass_truth),
+        Code::List => listed(ws, s, line.rest(3)),
+        Code::StepDifference => says(line, 6, step_difference(ws, x), pass_difference),
     }
 }

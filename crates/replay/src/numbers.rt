@@ -1,108 +1,110 @@
-// Reads the numbers of a line, byte by byte, into an array of words.
+// Reads the numbers of a line, byte by byte.
+ghost use Rattle.std.specs.Prelude.{◌≤◌};
+
+use super::calling::Code;
 
 // The most numbers that a line has.
-pub const NUMBERS: usize = 512;
-
-const GREATEST: u64 = 4294967295;
+const NUMBERS: usize = 512;
 
 // A length, a code and a status at least.
 const FEWEST: usize = 3;
 
-// What is read of a line: the number at hand, if a digit of it is there, how many numbers before it, and whether all is well so far.
+// What no line of numbers has there.
 #[derive(Clone, Copy)]
-pub struct Reading {
-    pub value: u32,
-    pub begun: bool,
-    pub count: usize,
-    pub good: bool,
+pub struct Spoilt;
+
+// A line as far as it is read, a spoilt one too: its numbers, how many there are, the number at
+// hand once a digit of it is there, and whether all is well so far.
+// (The count stands beside the array: no heap, and what may not change, namely what `replay` counts
+// at a line that lacks arguments, whose call takes the numbers that earlier lines left there.)
+#[derive(Drop)]
+pub struct Line {
+    numbers: [u32; NUMBERS],
+    count: usize,
+    number: Option<u32>,
+    read: Result<(), Spoilt>,
 }
 
-// Before the first byte of a line.
-pub fn start() -> Reading {
-    Reading {
-        value: 0,
-        begun: false,
-        count: 0,
-        good: true,
+impl Line {
+    // Before the first byte of the first line.
+    pub fn new() -> Line {
+        Line {
+            numbers: [0; NUMBERS],
+            count: 0,
+            number: None,
+            read: Ok(()),
+        }
     }
-}
 
-// The line is not one of numbers.
-fn spoilt(r: Reading) -> Reading {
-    let mut next = r;
-    next.good = false;
-    next
-}
+    // Before the first byte of the next line.
+    pub fn clear(&mut self) {
+        self.count = 0;
+        self.number = None;
+        self.read = Ok(());
+    }
 
-// The number with one digit more.
-fn longer(value: u32, digit: u8) -> u64 {
-    (value as u64) * 10 + (digit as u64)
-}
+    // Whether nothing of a line is read.
+    pub fn is_untouched(&self) -> bool {
+        self.read.is_ok() && self.number.is_none() && self.count == 0
+    }
 
-// Takes a digit; a number has no leading zero and fits 32 bits.
-fn take_digit(r: Reading, digit: u8) -> Reading {
-    let value = longer(r.value, digit);
-    if GREATEST < value {
-        return spoilt(r);
+    // Takes a digit; a number has no leading zero and fits 32 bits.
+    fn take_digit(&mut self, digit: u8) -> Result<(), Spoilt> {
+        let tens = self.number.unwrap_or(0).checked_mul(10).ok_or(Spoilt)?;
+        let value = tens.checked_add(u32::from(digit)).ok_or(Spoilt)?;
+        if self.number == Some(0) {
+            return Err(Spoilt);
+        }
+        self.number = Some(value);
+        Ok(())
     }
-    if r.begun && r.value == 0 {
-        return spoilt(r);
-    }
-    let mut next = r;
-    next.value = value as u32;
-    next.begun = true;
-    next
-}
 
-// The number at hand has ended, and joins those before it.
-pub fn end_number(line: &mut [u32; NUMBERS], r: Reading) -> Reading {
-    let at = r.count;
-    if !r.begun {
-        return spoilt(r);
+    // The number at hand has ended, and joins those before it.
+    fn end_number(&mut self) -> Result<(), Spoilt> {
+        let number = self.number.ok_or(Spoilt)?;
+        if NUMBERS <= self.count {
+            return Err(Spoilt);
+        }
+        self.numbers[self.count] = number;
+        self.count += 1;
+        self.number = None;
+        Ok(())
     }
-    if NUMBERS <= at {
-        return spoilt(r);
-    }
-    line[at] = r.value;
-    Reading {
-        value: 0,
-        begun: false,
-        count: at + 1,
-        good: r.good,
-    }
-}
 
-// Takes a byte other than the line end.
-pub fn take(line: &mut [u32; NUMBERS], r: Reading, byte: u8) -> Reading {
-    if byte == b' ' {
-        return end_number(line, r);
+    // Takes a byte other than the line end.
+    pub fn take(&mut self, byte: u8) {
+        let taken = match byte {
+            b' ' => self.end_number(),
+            b'0'..=b'9' => self.take_digit(byte - b'0'),
+            _ => Err(Spoilt),
+        };
+        self.read = self.read.and(taken);
     }
-    if byte < b'0' {
-        return spoilt(r);
-    }
-    if b'9' < byte {
-        return spoilt(r);
-    }
-    take_digit(r, byte - b'0')
-}
 
-// Whether so many numbers are one more than the length.
-fn fits(length: u32, count: usize) -> bool {
-    if count < FEWEST {
-        return false;
+    // Whether the first number counts those that follow.
+    fn is_whole(&self) -> bool {
+        FEWEST <= self.count && self.numbers[0] as usize == self.count - 1
     }
-    (length as usize) == count - 1
-}
 
-// Whether a line that has ended is whole: its first number counts those that follow.
-pub fn whole(line: &[u32; NUMBERS], r: Reading) -> bool {
-    if !r.good {
-        return false;
+    // The line has ended: the code of its call, where it is whole and there is such a call.
+    pub fn end(&mut self) -> Option<Code> {
+        let ended = self.end_number();
+        self.read.and(ended).ok()?;
+        if !self.is_whole() {
+            return None;
+        }
+        Code::try_from(self.numbers[1]).ok()
     }
-    fits(line[0], r.count)
-}
 
-// Whether nothing of a line is read.
-pub fn untouched(r: Reading) -> bool {
-    r.good && !r.begun && r.count == 0
+    // So many arguments of the call, which stand after the length and the code.
+    pub fn arguments<const N: usize>(&self) -> [u32; N]
+        requires { N ≤ 510 }
+    {
+        std::array::from_fn(|k| self.numbers[k + 2])
+    }
+
+    // The numbers that are read, from a place on.
+    pub fn rest(&self, at: usize) -> &[u32] {
+        self.numbers.get(at..self.count).unwrap_or(&[])
+    }
 }
