@@ -7,6 +7,9 @@ use native.Mathlib.Omega.{arith}
 use mir.Syntax.{w32}
 use mir.Val.{Fits}
 use lib.ListN.{length}
+use Rattle.std.specs.Prelude.{Option, Result, Ok, Err}
+use Rattle.std.specs.Option.{ok_or}
+use Rattle.std.specs.Result.{IsErrAnd}
 use Rattle.words.specs.Layout.{nodes, slots, slot_root, not_held, max_height, node_words, header_words}
 use Rattle.words.specs.Reads.{Held}
 use Rattle.words.specs.Sound.{Sound}
@@ -20,42 +23,30 @@ use Rattle.words.proofs.Bounds.{version_low}
 use Rattle.arena.specs.Nodes.{SlotInside}
 use Rattle.nodes.specs.Promises as nodes
 use Rattle.nodes.proofs.Raised.{owned_raisable, owned_any}
-use Rattle.calls.specs.Refusal as calls
 use Rattle.calls.specs.Call as call
-use Rattle.calls.specs.Version.{Lowest}
 use Rattle.calls.specs.Outcome.{Outcome}
 use Rattle.calls.proofs.Versions.{version_of, version_root, version_link}
 use Rattle.calls.proofs.WritingOutcomes.{new_full, new_outcome, hold_outcome, release_outcome}
 use Rattle.answers.specs.declared.Refusal.{Refusal}
-use Rattle.answers.specs.declared.Entered.{Entered}
-use Rattle.answers.specs.Answers.{refusal_of}
+use Rattle.answers.specs.declared.Refusal.TheVariants.{NoSlot}
 use Rattle.answers.specs.Entering.{Enters}
 use Rattle.answers.proofs.Entries.{root_of, version_refused, named-first}
-use Rattle.versions.specs.declared.FreeSlot.{FreeSlot}
-use Rattle.versions.specs.declared.FreeSlot.TheVariants.{At, AllHeld}
 use Rattle.versions.specs.declared.Parent.{Parent}
-use Rattle.versions.specs.declared.Opened.{Opened}
 use Rattle.versions.specs.Free.{FreeIs}
-use Rattle.versions.specs.Slots.{LowestAt, LowestIs, Parents, Opens}
-use Rattle.versions.proofs.Opening.{opened_refused, parent_of, parents}
-use Rattle.versions.proofs.FreeNumbers.{balanced, slotted_nodes, slotted_idles, slotted_free, released_free, released_fits}
+use Rattle.versions.specs.Slots.{slot_answer, done_answer, LowestIs, Parents, Opens}
+use Rattle.versions.proofs.Opening.{handed_on, lowest_of, all_held, parent_of}
+use Rattle.versions.proofs.FreeNumbers.{balanced, slotted_nodes, slotted_idles, released_free, released_fits}
 
-module _ {ws : List ℕ} {o : FreeSlot} (S : Sound ws) (l : LowestIs ws o) where
-  pub new_refused : o ≡ AllHeld → Outcome call.Call.new ws (call.Answer.refused calls.Refusal.no_slot) ws
-  new_refused f = new_full S (subst (LowestAt ws) f l.is)
+module _ {ws : List ℕ} {o : Option ℕ} {x : Result ℕ Refusal} (S : Sound ws) (l : LowestIs ws o) (t : x ≡ ok_or o NoSlot) where
+  pub new_refused : (y : Result ℕ Refusal) {r : Refusal} → x ≡ Err r → IsErrAnd y (λ z. z ≡ r) → Outcome call.Call.new ws (slot_answer y) ws
+  new_refused y e h = rw (handed_on h, (all_held l t e).0) (new_full S (all_held l t e).1)
 
-  module _ {q n : ℕ} (f : o ≡ At q) (e : n ≡ nodes ws) where
-    lowest : Lowest ws q
-    lowest = subst (LowestAt ws) f l.is
-
+  module _ {q n : ℕ} (f : x ≡ Ok q) (e : n ≡ nodes ws) where
     pub new_inside : SlotInside n ws q
-    new_inside = omega (arith, S.trees.limits.long_is, lowest.below)
+    new_inside = omega (arith, S.trees.limits.long_is, (lowest_of l t f).below)
 
     pub new_told : {w : List ℕ} → w ≡ slotting n ws q 0 0 → Outcome call.Call.new ws (call.Answer.slot q) w
-    new_told {w} z = rw (z ∙ ap (λ (m : ℕ). slotting m ws q 0 0) e) (new_outcome S lowest)
-
-    pub new_free : {w : List ℕ} {m : ℕ} → FreeIs ws m → w ≡ slotting n ws q 0 0 → FreeIs w m
-    new_free F = slotted_free q 0 0 S F e
+    new_told {w} z = rw (z ∙ ap (λ (m : ℕ). slotting m ws q 0 0) e) (new_outcome S (lowest_of l t f))
 
 module _ {ws : List ℕ} {p : Parent} (k : Parents ws p) where
   pub share_raisable : nodes.Raisable ws p.root
@@ -104,25 +95,18 @@ module _ {ws : List ℕ} {p : Parent} (k : Parents ws p) where
       (omega (arith, slotted_idles (nodes ws) up p.out p.root p.size, raising_idles (nodes ws) ws long p.root live))
       (omega arith))
 
-module _ {ws : List ℕ} {s : ℕ} {x : Opened} (S : Sound ws) (g : Opens ws s x) where
-  pub hold_refused : {r : Refusal} → x ≡ Opened.Refused r → Outcome (call.Call.hold s) ws (call.Answer.refused (refusal_of r)) ws
-  hold_refused e = opened_refused S g refl refl e
-
-  pub hold_told : {p : Parent} {w : List ℕ} → x ≡ Opened.Parent p → w ≡ slotting (nodes ws) (raising ws p.root) p.out p.root p.size →
-      Outcome (call.Call.hold s) ws (call.Answer.slot p.out) w
-  hold_told {p} {w} e z =
+module _ {ws : List ℕ} {s : ℕ} {x : Result Parent Refusal} {p : Parent} (S : Sound ws) (g : Opens ws s x) (e : x ≡ Ok p) where
+  pub hold_told : {w : List ℕ} → w ≡ slotting (nodes ws) (raising ws p.root) p.out p.root p.size → Outcome (call.Call.hold s) ws (call.Answer.slot p.out) w
+  hold_told {w} z =
       let k = parent_of S g e in
       rw (z, k.root_is, k.size_is) (hold_outcome S k.lowest (version_of S s k.held))
 
-  pub hold_free : {p : Parent} {w : List ℕ} {f : ℕ} → x ≡ Opened.Parent p → FreeIs ws f →
-      w ≡ slotting (nodes ws) (raising ws p.root) p.out p.root p.size → FreeIs w f
-  hold_free e = share_free (parents S g e)
+module _ {ws : List ℕ} {s : ℕ} {x : Result ℕ Refusal} (S : Sound ws) (g : Enters ws s x) where
+  pub release_refused : (y : Result (Unit {0}) Refusal) {r : Refusal} → x ≡ Err r → IsErrAnd y (λ z. z ≡ r) →
+      Outcome (call.Call.release s) ws (done_answer y) ws
+  release_refused y e h = rw (handed_on h) (version_refused S g refl (named-first s []) e)
 
-module _ {ws : List ℕ} {s : ℕ} {x : Entered} (S : Sound ws) (g : Enters ws s x) where
-  pub release_refused : {r : Refusal} → x ≡ Entered.Refused r → Outcome (call.Call.release s) ws (call.Answer.refused (refusal_of r)) ws
-  release_refused e = version_refused S g refl (named-first s []) e
-
-  module _ {i n : ℕ} {w : List ℕ} (e : x ≡ Entered.Root i) (m : n ≡ nodes ws) (z : w ≡ slotting n ws s 4294967295 0) where
+  module _ {i n : ℕ} {w : List ℕ} (e : x ≡ Ok i) (m : n ≡ nodes ws) (z : w ≡ slotting n ws s 4294967295 0) where
     h : Held ws s
     h = (root_of S g e).0
 

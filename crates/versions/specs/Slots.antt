@@ -1,5 +1,5 @@
 -- What the writing calls test first, and the answers of RULES 4.17 from theirs (RULES 13.15).
-use Rattle.std.specs.Prelude.{◌≡◌, List, ℕ, ◌<◌}
+use Rattle.std.specs.Prelude.{◌≡◌, List, ℕ, ◌<◌, Option, Some, None, Result, Ok, Err}
 use Rattle.words.specs.Layout.{nodes, slots, slot_root, slot_size}
 use Rattle.words.specs.Reads.{Held}
 use Rattle.words.specs.Sound.{Sound}
@@ -7,32 +7,25 @@ use Rattle.calls.specs.Call.{Answer}
 use Rattle.calls.specs.Version.{Lowest}
 use Rattle.answers.specs.declared.Refusal.{Refusal}
 use Rattle.answers.specs.declared.Refusal.TheVariants.{BadShape, Unsound, NoVersion, BadRange, Absent, NoSlot, NoRoom, End}
-use Rattle.answers.specs.Answers.{refusal_of}
-use Rattle.versions.specs.declared.FreeSlot.{FreeSlot}
-use Rattle.versions.specs.declared.FreeSlot.TheVariants.{At, AllHeld}
+use Rattle.answers.specs.Answers.{answer_by}
 use Rattle.versions.specs.declared.Parent.{Parent}
-use Rattle.versions.specs.declared.Opened.{Opened}
-use Rattle.versions.specs.declared.SlotAnswer.{SlotAnswer}
-use Rattle.versions.specs.declared.DoneAnswer.{DoneAnswer}
 
-abbrev pub slot_answer : SlotAnswer → Answer
-slot_answer (SlotAnswer.Slot q) = Answer.slot q
-slot_answer (SlotAnswer.Refused r) = Answer.refused (refusal_of r)
+abbrev pub slot_answer : Result ℕ Refusal → Answer
+slot_answer a = answer_by Answer.slot a
 
-abbrev pub done_answer : DoneAnswer → Answer
-done_answer DoneAnswer.Done = Answer.done
-done_answer (DoneAnswer.Refused r) = Answer.refused (refusal_of r)
+abbrev pub done_answer : Result Unit Refusal → Answer
+done_answer a = answer_by (λ u. Answer.done) a
 
 -- RULES 4.27: "each of the V slots is held".
 abbrev pub AllSlotsHeld : List ℕ → Type 0
 AllSlotsHeld ws = (s : ℕ) → s < slots ws → Held ws s
 
 -- RULES 4.21: the lowest slot not held; or every slot is held.
-abbrev pub LowestAt : List ℕ → FreeSlot → Type 0
-LowestAt ws (At q) = Lowest ws q
-LowestAt ws AllHeld = AllSlotsHeld ws
+abbrev pub LowestAt : List ℕ → Option ℕ → Type 0
+LowestAt ws (Some q) = Lowest ws q
+LowestAt ws None = AllSlotsHeld ws
 
-pub record LowestIs (ws : List ℕ) (r : FreeSlot) : Type 0 where
+pub record LowestIs (ws : List ℕ) (r : Option ℕ) : Type 0 where
   pub is : LowestAt ws r
 
 -- The version of slot s, and the slot to hand out.
@@ -59,9 +52,9 @@ Refuses ws s NoSlot = Held ws s × AllSlotsHeld ws
 Refuses ws s NoRoom = ⊥
 Refuses ws s End = ⊥
 
-abbrev pub Opening : List ℕ → ℕ → Opened → Type 0
-Opening ws s (Opened.Parent p) = ParentOf ws s p
-Opening ws s (Opened.Refused r) = Refuses ws s r
+abbrev pub Opening : List ℕ → ℕ → Result Parent Refusal → Type 0
+Opening ws s (Ok p) = ParentOf ws s p
+Opening ws s (Err r) = Refuses ws s r
 
-pub record Opens (ws : List ℕ) (s : ℕ) (r : Opened) : Type 0 where
+pub record Opens (ws : List ℕ) (s : ℕ) (r : Result Parent Refusal) : Type 0 where
   pub is : Opening ws s r

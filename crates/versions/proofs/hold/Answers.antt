@@ -1,13 +1,13 @@
-use borrow.Author.Rules.{rules}
-use Rattle.versions.proofs.Opening.{parents}
-use Rattle.versions.proofs.Handing.{hold_refused, hold_told, hold_free}
+use mathlib.Core.Path.{refl}
+use Rattle.versions.proofs.Opening.{opened_refused, parents}
+use Rattle.versions.proofs.Handing.{hold_told, share_free}
 use Rattle.versions.proofs.hold.Goals as goal
 
+pub returns-in_err-p-clause-outcome : goal.returns-in_err-p-clause-outcome
+returns-in_err-p-clause-outcome c = opened_refused c.requires.sound c.«open».ensures _ refl refl c.in_err-p.was c.from_residual.ensures.1
+
 pub share-requires : goal.share-requires
-share-requires c = search parents
+share-requires c = search (parents, c.in_ok-p.was)
 
-pub returns-in-Refused : goal.returns-in-Refused
-returns-in-Refused c = record { outcome = search hold_refused; free_after = search rules }
-
-pub returns-in-Parent : goal.returns-in-Parent
-returns-in-Parent c = record { outcome = search hold_told; free_after = search hold_free }
+pub returns : goal.returns
+returns c = record { outcome = search (hold_told, c.in_ok-p.was); free_after = search (share_free, parents, c.in_ok-p.was) }

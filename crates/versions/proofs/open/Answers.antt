@@ -1,18 +1,15 @@
-use Rattle.answers.proofs.Entries.{header_inside, held_inside}
+use Rattle.answers.proofs.Entries.{held_inside}
 use Rattle.versions.proofs.Opening.{open_full, open_refused, open_at}
 use Rattle.versions.proofs.open.Goals as goal
 
-pub returns-in_default : goal.returns-in_default
-returns-in_default c = search open_full
+pub returns-in_err-root : goal.returns-in_err-root
+returns-in_err-root c = search (open_refused, c.in_err-root.was)
 
-pub nodes_of-requires : goal.nodes_of-requires
-nodes_of-requires c = search header_inside
+pub returns-in_err-out : goal.returns-in_err-out
+returns-in_err-out c = search (open_full, c.in_ok-root.was, c.in_err-out.was)
 
 pub slot_size-size-requires : goal.slot_size-size-requires
-slot_size-size-requires c = search held_inside
+slot_size-size-requires c = search (held_inside, c.in_ok-root.was)
 
-pub returns-in-Refused : goal.returns-in-Refused
-returns-in-Refused c = search open_refused
-
-pub returns-in-At : goal.returns-in-At
-returns-in-At c = search open_at
+pub returns : goal.returns
+returns c = search (open_at, c.in_ok-root.was, c.in_ok-out.was)
