@@ -1,7 +1,7 @@
 -- The three steps, one after the other, make format's outcome.
 use mathlib.Core.Path.{◌≡◌, refl, ◌∙◌}
 use mathlib.Core.Logic.{inr}
-use mathlib.Core.Bool.{Bool, true, false, not}
+use mathlib.Core.Bool.{Bool, true, false}
 use mathlib.Core.List.{List}
 use Prim.Native.Nat.{ℕ, zero, suc, ◌+◌, ◌-◌, ◌*◌, ◌≤◌, ◌<◌}
 use native.Mathlib.Omega.{arith}
@@ -12,7 +12,6 @@ use Rattle.words.specs.Sound.{Limits, Chain}
 use Rattle.words.proofs.Stores.{length_storing, storing_other, storing_here}
 use Rattle.arena.specs.Nodes.{NodeInside}
 use Rattle.soundness_laws.specs.Answer.{Decides}
-use Rattle.soundness_laws.proofs.Saying.{heard_yes, heard_no}
 use Rattle.calls.specs.Refusal.{Refusal}
 use Rattle.calls.specs.Call.{Call, Answer}
 use Rattle.calls.specs.Outcome.{Outcome}
@@ -40,16 +39,16 @@ node_spared : (i k : ℕ) → 1 ≤ i → key_word ≤ k → k < count_word → 
 node_spared i k o p q f = record { head = λ e. omega arith; left = λ j l e. f (omega arith); count = λ j l e. omega arith }
 
 -- What the test of the shape lets the steps know.
-pub format_refused : {n v : ℕ} {ws : List ℕ} {r : Bool} → Decides r (Limits n v (length ws)) → not r ≡ true →
+pub format_refused : {n v : ℕ} {ws : List ℕ} {r : Bool} → Decides r (Limits n v (length ws)) → r ≡ false →
     Outcome (Call.format n v) ws (Answer.refused Refusal.bad_shape) ws
-format_refused {r = r} d t = bad_shape_outcome (heard_no r d t)
+format_refused {r = r} d t = bad_shape_outcome (d.no t)
 
-pub header_inside : {n v long : ℕ} {r : Bool} → Decides r (Limits n v long) → not r ≡ false → header_words ≤ long
-header_inside {r = r} d t = omega (arith, (heard_yes r d t).long_is)
+pub header_inside : {n v long : ℕ} {r : Bool} → Decides r (Limits n v long) → r ≡ true → header_words ≤ long
+header_inside {r = r} d t = omega (arith, (d.yes t).long_is)
 
-module _ {n v : ℕ} {ws w1 : List ℕ} {r : Bool} (d : Decides r (Limits n v (length ws))) (t : not r ≡ false) (e : Headed n v ws w1) where
+module _ {n v : ℕ} {ws w1 : List ℕ} {r : Bool} (d : Decides r (Limits n v (length ws))) (t : r ≡ true) (e : Headed n v ws w1) where
   abbrev lawful : Limits n v (length ws)
-  lawful = heard_yes r d t
+  lawful = d.yes t
 
   headed_long : length w1 ≡ length ws
   headed_long = rw e.is (length_storing ws 0 0 (header n v))

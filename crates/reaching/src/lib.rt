@@ -14,7 +14,8 @@ use arena::{NOT_HELD, count_of, first_free, left_of, nodes_of, right_of, slot_ro
 
 // One name more for link x: at its last name the node enters the queue. The queue's new end, or
 // none where the arena is not sound. The node is written behind the queue at every name, so that
-// the processor need not guess which is the last.
+// the processor need not guess which is the last. Names and queue are passed on apart: lent in a
+// struct, each contract would have to name their loans too.
 fn arrive(ws: &[u32], x: u32, names: &mut [u32], queue: &mut [u32], tail: u32) -> Option<u32>
     requires { Arriving ws.now names.old queue.old tail }
     ensures { Arrives ws.now x names.old queue.old tail names.new queue.new result }

@@ -1,6 +1,6 @@
 -- The two halves of the test make the verdict, and the verdict an answer.
 use mathlib.Core.Path.{◌≡◌, ap, sym, ◌∙◌}
-use mathlib.Core.Bool.{Bool, true, false, not}
+use mathlib.Core.Bool.{Bool, true, false}
 use mathlib.Core.List.{List}
 use Prim.Native.Nat.{ℕ, ◌-◌, ◌*◌, ◌≤◌, ◌<◌}
 use native.Mathlib.Omega.{arith}
@@ -13,7 +13,7 @@ use Rattle.soundness_laws.specs.Answer.{Answers, Decides}
 use Rattle.soundness_laws.specs.Within.{Within}
 use Rattle.soundness_laws.specs.Queue.{Blank, Onward}
 use Rattle.soundness_laws.specs.Whole.{Whole, SoundWith}
-use Rattle.soundness_laws.proofs.Saying.{say_yes, say_no, heard_yes, heard_no, gone_on}
+use Rattle.soundness_laws.proofs.Saying.{say_yes, say_no, gone_on}
 use Rattle.soundness.specs.Verdict.{Verdict, Scratch}
 
 -- The first half says that k nodes are live.
@@ -26,11 +26,11 @@ module _ (ws queue : List ℕ) (k : ℕ) (a : Onward ws (Some k) (Whole ws queue
 
   -- The second half answers b.
   module _ (b : Bool) (d : Answers b (SoundWith ws (nodes ws - k)) (Sound ws → ⊥)) where
-    pub no_versions : not b ≡ true → Verdict ws None
-    no_versions e = heard_no b d e
+    pub no_versions : b ≡ false → Verdict ws None
+    no_versions e = d.no e
 
-    pub both_right : not b ≡ false → (n : ℕ) → n ≡ nodes ws → Verdict ws (Some (n - k))
-    both_right e n en = let w = heard_yes b d e in (w.0, w.1 ∙ sym (ap (λ (m : ℕ). m - k) en))
+    pub both_right : b ≡ true → (n : ℕ) → n ≡ nodes ws → Verdict ws (Some (n - k))
+    both_right e n en = let w = d.yes e in (w.0, w.1 ∙ sym (ap (λ (m : ℕ). m - k) en))
 
 -- Fresh arrays are scratch enough.
 replicate_blank : (m : ℕ) → Blank (replicate {A = ℕ} m 0)

@@ -17,7 +17,8 @@ pub fn word_of(memo: &[u32], x: u32) -> u32
     memo[x as usize]
 }
 
-// Notes link i.
+// Notes link i. The two arrays are passed on apart: lent in a struct, each contract would have to
+// name their loans too.
 pub fn put(memo: &mut [u32], ends: &mut [u32], i: u32, word: u32, least: u32, greatest: u32)
     requires { Places memo.old ends.old i }
     ensures { Put memo.old ends.old i word least greatest memo.new ends.new }

@@ -12,7 +12,8 @@ use crate::packed::{DARK, SHAPE, put, shapes_fit, word_above, word_of};
 use arena::{NOT_HELD, RED, node_at, nodes_of, slot_root, slot_size, slots_of};
 
 // Notes node i of this word, key and least key, if its key is below the keys of the tree at x, its
-// right link.
+// right link. Seven parameters: with each end answered as an Option by a function of its own, the
+// test of 63 to 85 nodes took 3 to 7 % longer.
 fn settle_right(
     memo: &mut [u32],
     ends: &mut [u32],

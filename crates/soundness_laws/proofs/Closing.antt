@@ -1,6 +1,6 @@
 -- The queue is whole, and the free list is held to it.
 use mathlib.Core.Path.{◌≡◌, refl, sym, ◌∙◌}
-use mathlib.Core.Bool.{Bool, true, false, not}
+use mathlib.Core.Bool.{Bool, true, false}
 use mathlib.Core.List.{List, []}
 use Prim.Native.Nat.{ℕ, ◌+◌, ◌-◌, ◌≤◌, ◌<◌}
 use native.Mathlib.Omega.{arith}
@@ -17,7 +17,6 @@ use Rattle.words.proofs.OwnedLaws.{when_pos, when_zero, idle_pos, idle_zero}
 use Rattle.words.proofs.SoundOwned.{sound_owned}
 use Rattle.words.proofs.FreeNumber.{sound_idles}
 use Rattle.soundness_laws.specs.Answer.{Decides}
-use Rattle.soundness_laws.proofs.Saying.{heard_yes, heard_no}
 use Rattle.soundness_laws.specs.Queue.{met, Full, Reach}
 use Rattle.soundness_laws.specs.Spare.{Spare, SpareList}
 use Rattle.soundness_laws.specs.Whole.{Whole}
@@ -66,12 +65,12 @@ module _ (ws names' queue : List ℕ) (tail : ℕ) (R : Reach ws names' queue ta
         record { spares = rw z (chain_spares ws (head ws) S.books.free S.books.free_listed S.books.free_counts) }
 
   module _ (k : ℕ) (ek : k ≡ nodes ws - tail) (r : Bool) (d : Decides r (SpareList ws k)) where
-    pub reach_no : not r ≡ true → Sound ws → ⊥
-    reach_no e S = heard_no r d e (sound_spares S k ek)
+    pub reach_no : r ≡ false → Sound ws → ⊥
+    reach_no e S = d.no e (sound_spares S k ek)
 
-    module _ (e : not r ≡ false) where
+    module _ (e : r ≡ true) where
       W : (G : List ℕ) × Chain (nodes ws) ws (head ws) G × (length G ≡ k) × ((x : ℕ) → 1 ≤ occ x G → Spare ws x)
-      W = spares_chain ws (head ws) k (heard_yes r d e).spares
+      W = spares_chain ws (head ws) k (d.yes e).spares
 
       abbrev G : List ℕ
       G = W.0

@@ -1,7 +1,7 @@
 -- Settling a node both children of which are known: its tree is good exactly when the two summaries
 -- fit, and then it is known.
 use mathlib.Core.Path.{◌≡◌, refl, ap, sym, ◌∙◌}
-use mathlib.Core.Bool.{Bool, true, false, not}
+use mathlib.Core.Bool.{Bool, true, false}
 use mathlib.Core.List.{List}
 use Prim.Native.Nat.{ℕ, zero, suc, ◌+◌, ◌/◌, ◌%◌, ◌^◌, ◌≤◌, ◌<◌}
 use native.Mathlib.Omega.{arith}
@@ -17,7 +17,7 @@ use Rattle.words.proofs.Bounds.{size-nodes}
 use Rattle.soundness_laws.specs.Answer.{Answers, Decides}
 use Rattle.soundness_laws.specs.Summary.{Brief, Good, Tells, Fits, Joined}
 use Rattle.soundness_laws.specs.Within.{Within}
-use Rattle.soundness_laws.proofs.Saying.{say_no, heard_yes, heard_no}
+use Rattle.soundness_laws.proofs.Saying.{say_no}
 use Rattle.soundness_laws.proofs.Joining.{good_fits, joined_tells}
 use Rattle.soundness_laws.specs.Packed.{shape, dark, packed, briefs, ShapesFit, word_above, Wordable, KeysApart, BothPut, Packable, Places}
 use Rattle.soundness_laws.proofs.Packing.{put_noted}
@@ -114,12 +114,12 @@ module _ (ws memo ends : List ℕ) (i : ℕ) (q : Settle ws (briefs memo ends) i
       let ek : k ≡ e.key = kis ∙ ap (λ (z : Entry). z.key) h.1.entry_is in
       f (rw (ed, ek) (good_fits d e a b tl tr tx ty p g))
 
-  pub settle_no : (t : Bool) → Decides t (ShapesFit c l r) → not t ≡ true → Answers false (Settled ws B B i) (Barren ws i)
-  settle_no t d e = say_no (record { none = no_tree (λ f. heard_no t d e (fits_shapes f)) })
+  pub settle_no : (t : Bool) → Decides t (ShapesFit c l r) → t ≡ false → Answers false (Settled ws B B i) (Barren ws i)
+  settle_no t d e = say_no (record { none = no_tree (λ f. d.no e (fits_shapes f)) })
 
-  module _ (t : Bool) (d : Decides t (ShapesFit c l r)) (e : not t ≡ false) where
+  module _ (t : Bool) (d : Decides t (ShapesFit c l r)) (e : t ≡ true) where
     S : ShapesFit c l r
-    S = heard_yes t d e
+    S = d.yes e
 
     pub settle_word : Wordable c l r
     unfolding briefs

@@ -1,6 +1,6 @@
 -- A summary that was packed is read back, and the others stay.
 use mathlib.Core.Path.{◌≡◌, refl, ◌∙◌}
-use mathlib.Core.Bool.{Bool, true, false}
+use mathlib.Core.Bool.{Bool, true}
 use mathlib.Core.Logic.{⊎_elim}
 use mathlib.Core.List.{List}
 use Prim.Native.Nat.{ℕ, ◌+◌, ◌*◌, ◌/◌, ◌%◌, ◌≤◌, ◌<◌}
@@ -11,7 +11,7 @@ use Rattle.words.specs.Layout.{nodes}
 use Rattle.words.proofs.Holding.{reads_link}
 use Rattle.soundness_laws.specs.Summary.{Brief, empty_brief}
 use Rattle.soundness_laws.specs.Answer.{Answers}
-use Rattle.soundness_laws.proofs.Saying.{say_yes, say_no}
+use Rattle.soundness_laws.proofs.Saying.{say_yes}
 use Rattle.soundness_laws.specs.Packed.{shape, dark, packed, briefs, Packable, Places, Room, KeysApart, Put, RightPut, BothPut}
 use Rattle.soundness_laws.specs.Known.{Known, Noted}
 
@@ -107,14 +107,7 @@ module _ (memo ends : List ℕ) (i w k y a : ℕ) where
   abbrev Before : Type 0
   Before = 1 ≤ y → k < get_or ends (2 * y) 0
 
-  pub right_none : y ≡ 0 → (memo' ends' : List ℕ) → Put memo ends i w a k memo' ends' → Answers true (RightPut memo ends i w k y a memo' ends') (Before → ⊥)
-  right_none e memo' ends' u =
-      say_yes (record { before = λ p. absurd (omega arith); greatest = k; end = record { none = λ _. refl; some = λ p. absurd (omega arith) }; put = u })
-
   module _ (f : y ≡ 0 → ⊥) where
-    pub right_no : get_or ends (2 * y) 0 ≤ k → Answers false (RightPut memo ends i w k y a memo ends) (Before → ⊥)
-    right_no l = say_no (λ h. omega (arith, h (omega arith)))
-
     pub right_some : k < get_or ends (2 * y) 0 → (memo' ends' : List ℕ) → Put memo ends i w a (get_or ends (2 * y + 1) 0) memo' ends' →
         Answers true (RightPut memo ends i w k y a memo' ends') (Before → ⊥)
     right_some l memo' ends' u =
@@ -132,22 +125,7 @@ module _ (memo ends : List ℕ) (i w x k y : ℕ) where
   abbrev Right : ℕ → List ℕ → List ℕ → Bool → Type 0
   Right a memo' ends' r = Answers r (RightPut memo ends i w k y a memo' ends') ((1 ≤ y → k < get_or ends (2 * y) 0) → ⊥)
 
-  pub left_none : x ≡ 0 → (memo' ends' : List ℕ) (r : Bool) → Right k memo' ends' r → Both memo' ends' r
-  left_none e memo' ends' r d =
-      record {
-        yes = λ t. record {
-          after = λ p. absurd (omega arith);
-          least = k;
-          end = record { none = λ _. refl; some = λ p. absurd (omega arith) };
-          right = d.yes t;
-        };
-        no = λ t K. d.no t K.before;
-      }
-
   module _ (f : x ≡ 0 → ⊥) where
-    pub left_no : k ≤ get_or ends (2 * x + 1) 0 → Both memo ends false
-    left_no l = say_no (λ K. omega (arith, K.after (omega arith)))
-
     pub left_some : get_or ends (2 * x + 1) 0 < k → (memo' ends' : List ℕ) (r : Bool) → Right (get_or ends (2 * x) 0) memo' ends' r → Both memo' ends' r
     left_some l memo' ends' r d =
         record {

@@ -2,9 +2,9 @@
 use mathlib.Core.Path.{◌≡◌, refl, sym}
 use Prim.Native.Nat.{ℕ}
 use lib.Dec.{eqb}
-use borrow.Author.Tests.{not-true, not-false, eqb-true, eqb-false}
-use mathlib.Core.Bool.{Bool, true, false, not, true≢false}
-use Rattle.std.specs.Prelude.{Option, Some, None}
+use borrow.Author.Tests.{eqb-true, eqb-false}
+use mathlib.Core.Bool.{true, false, true≢false}
+use Rattle.std.specs.Prelude.{Some, None}
 use Rattle.soundness_laws.specs.Answer.{Answers}
 use Rattle.soundness_laws.specs.Ways.{Ways}
 
@@ -17,14 +17,6 @@ say_no q = record { yes = λ e. absurd (true≢false (sym e)); no = λ _. q }
 -- An answer that is a test of two numbers.
 pub say_equal : {P Q : Type 0} {a b : ℕ} → (a ≡ b → P) → ((a ≡ b → ⊥) → Q) → Answers (eqb a b) P Q
 say_equal {a = a} {b = b} f g = record { yes = λ e. f (eqb-true a b e); no = λ e. g (eqb-false a b e) }
-
--- What is known in the two arms of `if !answer`.
-module _ {P Q : Type 0} (r : Bool) (a : Answers r P Q) where
-  pub heard_yes : not r ≡ false → P
-  heard_yes e = a.yes (not-false r e)
-
-  pub heard_no : not r ≡ true → Q
-  heard_no e = a.no (not-true r e)
 
 -- How a step that goes on or stops is made, and what is known of it.
 module _ {P : ℕ → Type 0} {Q : Type 0} where
@@ -39,7 +31,3 @@ module _ {P : ℕ → Type 0} {Q : Type 0} where
 
   pub stopped : Ways None P Q → Q
   stopped w = w.stop refl
-
--- Where a step stops, so does what it is a step of.
-pub stop_too : {P P' : ℕ → Type 0} {Q : Type 0} {r : Option ℕ} → r ≡ None → Ways None P Q → Ways r P' Q
-stop_too e w = rw e (stopping (stopped w))

@@ -1,6 +1,6 @@
 -- From the end of the queue, children come before their parents.
 use mathlib.Core.Path.{◌≡◌, refl, sym, ◌∙◌}
-use mathlib.Core.Bool.{Bool, true, false, not}
+use mathlib.Core.Bool.{Bool, true, false}
 use mathlib.Core.List.{List}
 use Prim.Native.Nat.{ℕ, suc, ◌-◌, ◌≤◌, ◌<◌}
 use native.Mathlib.Omega.{arith}
@@ -15,7 +15,7 @@ use Rattle.words.specs.Sound.{Reached, from_slot, from_left, from_right, Trees, 
 use Rattle.words.proofs.Counts.{same_ne}
 use Rattle.soundness_laws.specs.Answer.{Answers}
 use Rattle.soundness_laws.specs.Summary.{Brief, first_key, last_key, shade_of, empty_brief, Good, Tells}
-use Rattle.soundness_laws.proofs.Saying.{say_yes, say_no, heard_yes, heard_no}
+use Rattle.soundness_laws.proofs.Saying.{say_yes, say_no}
 use Rattle.soundness_laws.proofs.Joining.{good_left, good_right}
 use Rattle.soundness_laws.specs.Whole.{Whole}
 use Rattle.soundness_laws.specs.Packed.{briefs}
@@ -115,15 +115,15 @@ module _ (ws queue : List ℕ) (tail : ℕ) (W : Whole ws queue tail) where
             }
 
         module _ (B' : ℕ → Brief) (r : Bool) (d : Answers r (Settled ws B B' i) (Barren ws i)) where
-          pub settling_no : not r ≡ true → Answers false (AllKnown ws B') (Sound ws → ⊥)
-          settling_no e = say_no (λ S. let t = reached_good ws S (W.reached i here) in (heard_no r d e).none t.0 t.1 t.2)
+          pub settling_no : r ≡ false → Answers false (AllKnown ws B') (Sound ws → ⊥)
+          settling_no e = say_no (λ S. let t = reached_good ws S (W.reached i here) in (d.no e).none t.0 t.1 t.2)
 
-          module _ (e : not r ≡ false) where
+          module _ (e : r ≡ true) where
             kept : (x : ℕ) → (x ≡ i → ⊥) → Known ws B x → Known ws B' x
-            kept x f K = record { tree = K.tree; holds = K.holds; tells = rw ((heard_yes r d e).other x f) K.tells }
+            kept x f K = record { tree = K.tree; holds = K.holds; tells = rw ((d.yes e).other x f) K.tells }
 
             known_more : (x : ℕ) → 1 ≤ occ x (take tail queue) → occ x (take j queue) ≡ 0 → Dec (x ≡ i) → Known ws B' x
-            known_more x o n (yes z) = rw z (heard_yes r d e).known
+            known_more x o n (yes z) = rw z (d.yes e).known
             known_more x o n (no f) =
                 let a : k ≡ suc j = omega arith in
                 let b : occ x (take (suc j) queue) ≡ 0 = omega (arith, occ-next x j queue settling_place, same_ne (get_or queue j 0) x (λ z. f (sym z ∙ sym ei))) in

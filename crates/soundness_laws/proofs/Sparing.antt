@@ -1,19 +1,18 @@
 -- The free list: what a walk over nodes of count 0 says of the chain of free nodes.
 use mathlib.Core.Path.{◌≡◌, refl, ap, sym, ◌∙◌}
-use mathlib.Core.Bool.{Bool, true, false, not}
+use mathlib.Core.Bool.{Bool, true, false}
 use mathlib.Core.List.{List, [], ◌∷◌}
 use Prim.Native.Nat.{ℕ, zero, suc, ◌+◌, ◌-◌, ◌≤◌, ◌<◌}
 use native.Mathlib.Omega.{arith}
 use native.Mathlib.Decide.{ℕ_discrete, dec_le}
 use lib.ListN.{length}
 use lib.Dec.{eqb}
-use Rattle.words.specs.Layout.{nodes, head, left, count}
+use Rattle.words.specs.Layout.{nodes, left, count}
 use Rattle.words.specs.Counting.{same, occ}
 use Rattle.words.specs.Sound.{Chain}
 use Rattle.words.proofs.Counts.{same_eq, same_ne}
 use Rattle.soundness_laws.specs.Answer.{Decides}
-use Rattle.soundness_laws.specs.Within.{Within, Inside}
-use Rattle.soundness_laws.proofs.Saying.{say_no, say_equal, heard_yes, heard_no}
+use Rattle.soundness_laws.proofs.Saying.{say_no, say_equal}
 use Rattle.soundness_laws.specs.Spare.{Spare, Spares, SpareList}
 
 -- A walk as a list, and a list as a walk.
@@ -73,9 +72,6 @@ pub record Walk (ws : List ℕ) (all i k : ℕ) : Type 0 where
   pub on : Spares ws i k → SpareList ws all
   pub back : SpareList ws all → Spares ws i k
 
-pub walk_start : (ws : List ℕ) (k i : ℕ) → i ≡ head ws → Walk ws k i (k - 0)
-walk_start ws k i e = let z : k - 0 ≡ k = omega arith in rw (z, e) (record { on = λ l. record { spares = l }; back = λ f. f.spares })
-
 step : (ws : List ℕ) (all i k j : ℕ) → Walk ws all i k → 0 < k → Spare ws i → j ≡ left ws i → Walk ws all j (k - 1)
 step ws all i zero j w h u e = absurd (omega arith)
 step ws all i (suc k) j w h u e =
@@ -93,16 +89,13 @@ over ws all i (suc k) w h = absurd (omega arith)
 -- Over `gone` nodes of all it has come to the link i.
 module _ (ws : List ℕ) (all i gone : ℕ) (w : Walk ws all i (all - gone)) where
   module _ (l : gone < all) (r : Bool) (d : Decides r (Spare ws i)) where
-    pub walk_no : not r ≡ true → Decides false (SpareList ws all)
-    walk_no e = say_no (stuck ws all i (all - gone) w (omega arith) (heard_no r d e))
+    pub walk_no : r ≡ false → Decides false (SpareList ws all)
+    walk_no e = say_no (stuck ws all i (all - gone) w (omega arith) (d.no e))
 
-    pub walk_inside : not r ≡ false → Within ws → Inside ws i
-    walk_inside e b = omega (arith, (heard_yes r d e).high, b.long_is)
-
-    pub walk_more : not r ≡ false → (j : ℕ) → j ≡ left ws i → Walk ws all j (all - (gone + 1))
+    pub walk_more : r ≡ true → (j : ℕ) → j ≡ left ws i → Walk ws all j (all - (gone + 1))
     walk_more e j z =
         let o : all - (gone + 1) ≡ all - gone - 1 = omega arith in
-        rw o (step ws all i (all - gone) j w (omega arith) (heard_yes r d e) z)
+        rw o (step ws all i (all - gone) j w (omega arith) (d.yes e) z)
 
   pub walk_end : all ≤ gone → Decides (eqb i 0) (SpareList ws all)
   walk_end l =

@@ -1,6 +1,6 @@
 -- The live nodes are told from the free ones: the ends of the test's first half.
 use mathlib.Core.Path.{◌≡◌, ap}
-use mathlib.Core.Bool.{Bool, true, false, not}
+use mathlib.Core.Bool.{Bool, true, false}
 use mathlib.Core.List.{List}
 use Prim.Native.Nat.{ℕ, ◌-◌, ◌≤◌}
 use native.Mathlib.Omega.{arith}
@@ -22,8 +22,8 @@ module _ (ws names queue : List ℕ) (tail : ℕ) (a : Onward ws (Some tail) (Re
     rest : n - tail ≡ nodes ws - tail
     rest = ap (λ (m : ℕ). m - tail) en
 
-    pub live_no : not b ≡ true → Onward ws None (Whole ws queue)
+    pub live_no : b ≡ false → Onward ws None (Whole ws queue)
     live_no e = stopping (reach_no ws names queue tail (gone_on a) (n - tail) rest b d e)
 
-    pub live_all : not b ≡ false → Onward ws (Some tail) (Whole ws queue)
+    pub live_all : b ≡ true → Onward ws (Some tail) (Whole ws queue)
     live_all e = going (reach_whole ws names queue tail (gone_on a) (n - tail) rest b d e)

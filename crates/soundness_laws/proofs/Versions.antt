@@ -16,7 +16,7 @@ use Rattle.words.specs.Owned.{Version, Sized}
 use Rattle.words.proofs.Holding.{reads_same, reads_link}
 use Rattle.soundness_laws.specs.Answer.{Decides}
 use Rattle.soundness_laws.specs.Summary.{Brief, Tells}
-use Rattle.soundness_laws.proofs.Saying.{say_yes, say_no, say_equal, heard_yes, heard_no}
+use Rattle.soundness_laws.proofs.Saying.{say_yes, say_no, say_equal}
 use Rattle.soundness_laws.proofs.Slots.{root_read, size_read}
 use Rattle.soundness_laws.proofs.Joining.{shade_black, black_shade}
 use Rattle.soundness_laws.specs.Packed.{dark, briefs}
@@ -113,11 +113,11 @@ module _ (ws : List ℕ) (v s : ℕ) (t : SlotsTo ws v s) where
   slots_end l = say_yes (record { are = λ k p. t.are k (omega (arith, t.v_is)) })
 
   module _ (l : s < v) (r : Bool) (d : Decides r (SlotRight ws s)) where
-    pub slots_no : not r ≡ true → Decides false (SlotsRight ws)
-    slots_no e = say_no (λ z. heard_no r d e (z.are s (omega (arith, t.v_is))))
+    pub slots_no : r ≡ false → Decides false (SlotsRight ws)
+    slots_no e = say_no (λ z. d.no e (z.are s (omega (arith, t.v_is))))
 
-    pub slots_more : not r ≡ false → SlotsTo ws v (s + 1)
-    slots_more e = record { v_is = t.v_is; high = omega arith; are = below_more (SlotRight ws) s t.are (heard_yes r d e) }
+    pub slots_more : r ≡ true → SlotsTo ws v (s + 1)
+    slots_more e = record { v_is = t.v_is; high = omega arith; are = below_more (SlotRight ws) s t.are (d.yes e) }
 
 -- The same from the word t of the root x.
 module _ (ws memo ends : List ℕ) (A : AllKnown ws (briefs memo ends)) (s : ℕ) (l : s < slots ws) (n : ℕ) (en : n ≡ nodes ws) (x : ℕ)

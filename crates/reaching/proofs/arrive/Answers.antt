@@ -1,14 +1,8 @@
-use Rattle.soundness_laws.proofs.Entering.{arrive_none, arrive_far, arrive_over, arrive_named, arrive_entered}
+use Rattle.soundness_laws.proofs.Entering.{arrive_none, arrive_named, arrive_entered}
 use Rattle.reaching.proofs.arrive.Goals as goal
 
 pub returns-then-x-eq0 : goal.returns-then-x-eq0
 returns-then-x-eq0 c = search arrive_none
-
-pub returns-then-nodes_of-x : goal.returns-then-nodes_of-x
-returns-then-nodes_of-x c = search arrive_far
-
-pub returns-then-count-met : goal.returns-then-count-met
-returns-then-count-met c = search arrive_over
 
 pub returns-then-met-count : goal.returns-then-met-count
 returns-then-met-count c = search arrive_named

@@ -1,9 +1,5 @@
-use Rattle.soundness_laws.proofs.Saying.{stop_too}
 use Rattle.soundness_laws.proofs.Telling.{live_short, live_no, live_all}
 use Rattle.reaching.proofs.live_nodes.Goals as goal
-
-pub returns-in_err-tail : goal.returns-in_err-tail
-returns-in_err-tail c = stop_too c.from_residual.ensures c.in_err-tail.ensures
 
 pub overflow_sub-rest : goal.overflow_sub-rest
 overflow_sub-rest c = search (live_short, c.in_ok-tail.ensures)

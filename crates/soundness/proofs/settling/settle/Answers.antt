@@ -1,31 +1,16 @@
-use mathlib.Core.Path.{ap}
-use mathlib.Core.Bool.{not}
-use Rattle.soundness_laws.proofs.Packing.{places, known_places}
+use Rattle.soundness_laws.proofs.Packing.{places}
 use Rattle.soundness_laws.proofs.Knowing.{settle_no, settle_word, settle_both}
 use Rattle.soundness.proofs.NodeWords.{key_is}
 use Rattle.soundness.proofs.settling.settle.Goals as goal
 
-pub word_of-l-requires : goal.word_of-l-requires
-word_of-l-requires c = (known_places _ _ _ _ _ _ c.node_at-d.ensures.left_is c.requires.0.left c.requires.1).memo_room
-
-pub word_of-r-requires : goal.word_of-r-requires
-word_of-r-requires c = (known_places _ _ _ _ _ _ c.node_at-d.ensures.right_is c.requires.0.right c.requires.1).memo_room
-
 pub returns-then-not-shapes_fit : goal.returns-then-not-shapes_fit
 returns-then-not-shapes_fit c = let read = c.node_at-d.ensures in
-    settle_no _ _ _ _ c.requires.0 _ _ _ _ read.color_is (key_is _ _ _ read) read.left_is read.right_is _ _ c.word_of-l.ensures c.word_of-r.ensures _ c.shapes_fit.ensures (ap not c.if-not-shapes_fit.true)
+    settle_no _ _ _ _ c.requires.0 _ _ _ _ read.color_is (key_is _ _ _ read) read.left_is read.right_is _ _ c.word_of-l.ensures c.word_of-r.ensures _ c.shapes_fit.ensures c.if-not-shapes_fit.true
 
 pub word_above-requires : goal.word_above-requires
 word_above-requires c = let read = c.node_at-d.ensures in
-    settle_word _ _ _ _ c.requires.0 _ _ _ _ read.color_is (key_is _ _ _ read) read.left_is read.right_is _ _ c.word_of-l.ensures c.word_of-r.ensures _ c.shapes_fit.ensures (ap not c.if-not-shapes_fit.false)
-
-pub settle_ends-requires : goal.settle_ends-requires
-settle_ends-requires c = let read = c.node_at-d.ensures in (
-  places _ _ _ _ c.requires.1 c.requires.0.high,
-  known_places _ _ _ _ _ _ read.left_is c.requires.0.left c.requires.1,
-  known_places _ _ _ _ _ _ read.right_is c.requires.0.right c.requires.1,
-)
+    settle_word _ _ _ _ c.requires.0 _ _ _ _ read.color_is (key_is _ _ _ read) read.left_is read.right_is _ _ c.word_of-l.ensures c.word_of-r.ensures _ c.shapes_fit.ensures c.if-not-shapes_fit.false
 
 pub returns : goal.returns
 returns c = let read = c.node_at-d.ensures in
-    settle_both _ _ _ _ c.requires.0 _ _ _ _ read.color_is (key_is _ _ _ read) read.left_is read.right_is _ _ c.word_of-l.ensures c.word_of-r.ensures _ c.shapes_fit.ensures (ap not c.if-not-shapes_fit.false) _ c.word_above.ensures _ _ (places _ _ _ _ c.requires.1 c.requires.0.high) _ c.settle_ends.ensures
+    settle_both _ _ _ _ c.requires.0 _ _ _ _ read.color_is (key_is _ _ _ read) read.left_is read.right_is _ _ c.word_of-l.ensures c.word_of-r.ensures _ c.shapes_fit.ensures c.if-not-shapes_fit.false _ c.word_above.ensures _ _ (places _ _ _ _ c.requires.1 c.requires.0.high) _ c.settle_ends.ensures

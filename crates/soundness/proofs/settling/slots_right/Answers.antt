@@ -1,14 +1,6 @@
-use Rattle.soundness_laws.proofs.Versions.{slots_start, slots_no, slots_more, slots_end}
+use Rattle.soundness_laws.proofs.Versions.{slots_more}
 use Rattle.soundness.proofs.settling.slots_right.Goals as goal
 
-pub loop-s-init : goal.loop-s-init
-loop-s-init c = search slots_start
-
-pub returns-then-not-slot_right : goal.returns-then-not-slot_right
-returns-then-not-slot_right c = search slots_no
-
+-- The check finds this alone; by its law it refuses an edit of the loop at once.
 pub loop-s-preserved : goal.loop-s-preserved
 loop-s-preserved c = search slots_more
-
-pub returns : goal.returns
-returns c = search slots_end
