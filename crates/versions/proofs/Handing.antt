@@ -33,8 +33,8 @@ use Rattle.answers.specs.Entering.{Enters}
 use Rattle.answers.proofs.Entries.{root_of, version_refused, named-first}
 use Rattle.versions.specs.declared.Parent.{Parent}
 use Rattle.versions.specs.Free.{FreeIs}
-use Rattle.versions.specs.Slots.{slot_answer, done_answer, LowestIs, Parents, Opens}
-use Rattle.versions.proofs.Opening.{handed_on, lowest_of, all_held, parent_of}
+use Rattle.versions.specs.Slots.{slot_answer, done_answer, LowestIs, ParentOf, Parents}
+use Rattle.versions.proofs.Opening.{handed_on, lowest_of, all_held}
 use Rattle.versions.proofs.FreeNumbers.{balanced, slotted_nodes, slotted_idles, released_free, released_fits}
 
 module _ {ws : List ℕ} {o : Option ℕ} {x : Result ℕ Refusal} (S : Sound ws) (l : LowestIs ws o) (t : x ≡ ok_or o NoSlot) where
@@ -95,11 +95,9 @@ module _ {ws : List ℕ} {p : Parent} (k : Parents ws p) where
       (omega (arith, slotted_idles (nodes ws) up p.out p.root p.size, raising_idles (nodes ws) ws long p.root live))
       (omega arith))
 
-module _ {ws : List ℕ} {s : ℕ} {x : Result Parent Refusal} {p : Parent} (S : Sound ws) (g : Opens ws s x) (e : x ≡ Ok p) where
-  pub hold_told : {w : List ℕ} → w ≡ slotting (nodes ws) (raising ws p.root) p.out p.root p.size → Outcome (call.Call.hold s) ws (call.Answer.slot p.out) w
-  hold_told {w} z =
-      let k = parent_of S g e in
-      rw (z, k.root_is, k.size_is) (hold_outcome S k.lowest (version_of S s k.held))
+pub hold_told : {ws w : List ℕ} {s : ℕ} {p : Parent} → Sound ws → ParentOf ws s p →
+    w ≡ slotting (nodes ws) (raising ws p.root) p.out p.root p.size → Outcome (call.Call.hold s) ws (call.Answer.slot p.out) w
+hold_told {s = s} S k z = rw (z, k.root_is, k.size_is) (hold_outcome S k.lowest (version_of S s k.held))
 
 module _ {ws : List ℕ} {s : ℕ} {x : Result ℕ Refusal} (S : Sound ws) (g : Enters ws s x) where
   pub release_refused : (y : Result (Unit {0}) Refusal) {r : Refusal} → x ≡ Err r → IsErrAnd y (λ z. z ≡ r) →

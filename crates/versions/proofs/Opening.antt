@@ -111,8 +111,5 @@ module _ {ws : List ℕ} {s : ℕ} {x : Result Parent Refusal} (S : Sound ws) (g
       go NoRoom h = absurd h
       go End h = absurd h
 
-  pub parent_of : {p : Parent} → x ≡ Ok p → ParentOf ws s p
-  parent_of e = subst (Opening ws s) e g.is
-
-  abbrev pub parents : {p : Parent} → x ≡ Ok p → Parents ws p
-  parents e = record { sound = S; slot = s; of = parent_of e }
+abbrev pub parents : {ws : List ℕ} {s : ℕ} {p : Parent} → Sound ws → ParentOf ws s p → Parents ws p
+parents {s = s} S k = record { sound = S; slot = s; of = k }

@@ -8,21 +8,18 @@ use Rattle.trees.specs.Edit.{Edit, edit}
 use Rattle.words.specs.Layout.{nodes}
 use Rattle.words.specs.Sound.{Sound}
 use Rattle.words.specs.Owned.{idles}
-use Rattle.words.specs.Model.{raising, slotting}
 use Rattle.words.proofs.FreeNumber.{sound_idles}
 use Rattle.versions.specs.declared.Parent.{Parent}
-use Rattle.versions.specs.declared.Opened.{Opened}
 use Rattle.versions.specs.Free.{FreeIs}
-use Rattle.versions.specs.Slots.{Parents, Opens}
+use Rattle.versions.specs.Slots.{ParentOf, Parents}
 use Rattle.versions.proofs.Opening.{parents}
-use Rattle.versions.proofs.Handing.{share_free}
 use Rattle.versions.proofs.FreeNumbers.{balanced, slotted_nodes, slotted_idles}
 use Rattle.writing.specs.Planned.{PutInSlot, Edits}
 use Rattle.writing.proofs.Editing.{t, reads}
 
-module _ {ws : List ℕ} {s : ℕ} {x : Opened} (S : Sound ws) (g : Opens ws s x) {p : Parent} (h : x ≡ Opened.Parent p) {f : ℕ} (F : FreeIs ws f) where
+module _ {ws : List ℕ} {s : ℕ} {p : Parent} (S : Sound ws) (h : ParentOf ws s p) {f : ℕ} (F : FreeIs ws f) where
   abbrev k : Parents ws p
-  k = parents S g h
+  k = parents S h
 
   module _ {w : List ℕ} {d : Edit} {m : ℕ} (E : Edits ws w p d m) where
     put : PutInSlot ws w (edit d (t k)) p.out (size (edit d (t k))) m
@@ -45,7 +42,3 @@ module _ {ws : List ℕ} {s : ℕ} {x : Opened} (S : Sound ws) (g : Opens ws s x
 
     pub edit_free : FreeIs w (f - m)
     edit_free = balanced m 0 S F put_nodes (omega (arith, put_idles)) (omega (arith, edit_few))
-
-  -- Of an absent key nothing is taken.
-  pub absent_free : {w : List ℕ} → w ≡ slotting (nodes ws) (raising ws p.root) p.out p.root p.size → FreeIs w f
-  absent_free = share_free k F

@@ -1,5 +1,5 @@
 // Insert and remove, on a sound arena: RULES 4.10, 4.11, 4.37 and 4.38. `red_black_tree_map` tests
-// the arena first. Each takes the free number and gives it back.
+// the arena first. Each keeps the free number beside the words.
 #![tactic(auto)]
 
 ghost use Rattle.std.specs.Prelude.{◌≡◌, ◌+◌, ◌<◌, if◌then◌else◌};
@@ -16,10 +16,10 @@ ghost use Rattle.writing.specs.Planned.{Planned, Puts, Edits, Present};
 use answers::Refusal;
 use arena::{Entry, MAX_HEIGHT, nodes_of, put_slot};
 use heights::conservative_height;
-use lookup::Found;
-use versions::{Handed, Opened, Parent, SlotAnswer, open, share};
+use versions::{Parent, open, share};
 
-// Room for the nodes that an insertion plans, and for those of a removal: `insert_room` and `remove_room` of that height.
+// Room for the nodes that an insertion plans, and for those of a removal: `insert_room` and
+// `remove_room` of the greatest height.
 const INSERT_PLAN_WORDS: usize = 341;
 
 const REMOVE_PLAN_WORDS: usize = 886;
@@ -40,7 +40,8 @@ fn remove_reserve(size: u32) -> u32
     6 * conservative_height(size) + 2
 }
 
-// Puts the planned tree into the arena, and into slot q with its size. Answers how many nodes that took.
+// Puts the planned tree into the arena, and into slot q with its size. Answers how many nodes that
+// took.
 fn commit_to(ws: &mut [u32], plan: &[u32], link: u32, q: u32, size: u32) -> u32
     requires { Planned ws.old plan.now link q }
     ensures { Puts ws.old ws.new plan.now link q size result }
@@ -86,65 +87,36 @@ fn remove_from(ws: &mut [u32], p: Parent, key: u32) -> u32
 }
 
 // A slot for the parent with the entry set.
-pub fn insert(ws: &mut [u32], s: u32, e: Entry, free: u32) -> Handed
+pub fn insert(ws: &mut [u32], s: u32, e: Entry, free: &mut u32) -> Result<u32, Refusal>
     requires sound { Sound ws.old }
-    requires free_is { FreeIs ws.old free }
-    ensures outcome { Outcome (Call.insert s (entry_of e)) ws.old (slot_answer result.answer) ws.new }
-    ensures free_after { FreeIs ws.new result.free }
+    requires free_is { FreeIs ws.old free.old }
+    ensures outcome { Outcome (Call.insert s (entry_of e)) ws.old (slot_answer result) ws.new }
+    ensures free_after { FreeIs ws.new free.new }
 {
-    match open(ws, s) {
-        Opened::Refused(r) => Handed {
-            answer: SlotAnswer::Refused(r),
-            free: free,
-        },
-        Opened::Parent(p) => {
-            if free < insert_reserve(p.size) {
-                return Handed {
-                    answer: SlotAnswer::Refused(Refusal::NoRoom),
-                    free: free,
-                };
-            }
-            let taken = insert_into(ws, p, e);
-            Handed {
-                answer: SlotAnswer::Slot(p.out),
-                free: free - taken,
-            }
-        },
+    let p = open(ws, s)?;
+    if *free < insert_reserve(p.size) {
+        return Err(Refusal::NoRoom);
     }
+    *free -= insert_into(ws, p, e);
+    Ok(p.out)
 }
 
 // A slot for the parent without the key: of an absent key the parent itself (RULES 6.38), which
 // needs no free node (RULES 5.5).
-pub fn remove(ws: &mut [u32], s: u32, key: u32, free: u32) -> Handed
+pub fn remove(ws: &mut [u32], s: u32, key: u32, free: &mut u32) -> Result<u32, Refusal>
     requires sound { Sound ws.old }
-    requires free_is { FreeIs ws.old free }
-    ensures outcome { Outcome (Call.remove s key) ws.old (slot_answer result.answer) ws.new }
-    ensures free_after { FreeIs ws.new result.free }
+    requires free_is { FreeIs ws.old free.old }
+    ensures outcome { Outcome (Call.remove s key) ws.old (slot_answer result) ws.new }
+    ensures free_after { FreeIs ws.new free.new }
 {
-    match open(ws, s) {
-        Opened::Refused(r) => Handed {
-            answer: SlotAnswer::Refused(r),
-            free: free,
-        },
-        Opened::Parent(p) => {
-            let Found::At(_) = lookup::get(ws, p.root, key) else {
-                share(ws, p);
-                return Handed {
-                    answer: SlotAnswer::Slot(p.out),
-                    free: free,
-                };
-            };
-            if free < remove_reserve(p.size) {
-                return Handed {
-                    answer: SlotAnswer::Refused(Refusal::NoRoom),
-                    free: free,
-                };
-            }
-            let taken = remove_from(ws, p, key);
-            Handed {
-                answer: SlotAnswer::Slot(p.out),
-                free: free - taken,
-            }
-        },
+    let p = open(ws, s)?;
+    if lookup::get(ws, p.root, key).is_none() {
+        share(ws, p);
+        return Ok(p.out);
     }
+    if *free < remove_reserve(p.size) {
+        return Err(Refusal::NoRoom);
+    }
+    *free -= remove_from(ws, p, key);
+    Ok(p.out)
 }
