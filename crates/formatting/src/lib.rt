@@ -13,7 +13,6 @@ use answers::Refusal;
 use arena::{HEAD_WORD, HEADER_WORDS, NODES_WORD, NOT_HELD, SLOTS_WORD, put_slot};
 use limits::fits;
 use nodes::push_free;
-use versions::DoneAnswer;
 
 // The first spare word of the header, whose other words from there on are spare too.
 const SPARE_WORD: usize = 3;
@@ -53,14 +52,14 @@ fn empty_slots(ws: &mut [u32], n: u32, v: u32)
 
 // RULES 4.32: "Format accepts whatever the slice held. It records its N and V in words 0 and 1;
 // every node is then free, and no slot is held."
-pub fn format(ws: &mut [u32], n: u32, v: u32) -> DoneAnswer
+pub fn format(ws: &mut [u32], n: u32, v: u32) -> Result<(), Refusal>
     ensures { Outcome (Call.format n v) ws.old (done_answer result) ws.new }
 {
     if !fits(ws.len(), n, v) {
-        return DoneAnswer::Refused(Refusal::BadShape);
+        return Err(Refusal::BadShape);
     }
     write_header(ws, n, v);
     free_nodes(ws, n);
     empty_slots(ws, n, v);
-    DoneAnswer::Done
+    Ok(())
 }
