@@ -4,12 +4,15 @@ use mathlib.Core.List.{List, ◌++◌}
 use Prim.Native.Nat.{ℕ, ◌+◌, ◌-◌}
 use Rattle.words.specs.Layout.{max_height}
 use Rattle.abreast.specs.declared.Side.{Side}
-use Rattle.abreast.specs.Sides.{listed, waiting, ahead, Stands, Meets}
+use Rattle.abreast.specs.Sides.{listed, waiting, ahead, Stands, Sinks, Meets}
 
 -- A side that has gone down: what was ahead is ahead.
 pub record Reaches (ws : List ℕ) (s t : Side) : Type 0 where
   pub stands : Stands ws t
   pub same_ahead : ahead ws t ≡ ahead ws s
+
+pub reaches_on : {ws : List ℕ} {s t u : Side} → Reaches ws s t → Sinks ws t u → Reaches ws s u
+reaches_on R S = record { stands = S.stands; same_ahead = S.same_ahead ∙ R.same_ahead }
 
 -- How much deeper the two stacks can grow.
 abbrev pub room : Side → Side → ℕ

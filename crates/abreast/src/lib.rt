@@ -14,13 +14,13 @@ use arena::{Entry, MAX_HEIGHT, node_at, right_of};
 // RULES 13.5: "no more than 23 numbers", which is one more than the nodes on the longest way down.
 pub const STACK: usize = MAX_HEIGHT as usize + 1;
 
-// A side: its link, its stack, and how many numbers the stack has. It is lent and never copied, as
+// A side: its link, how many numbers its stack has, and the stack. It is lent and never copied, as
 // a stack is 23 words.
 #[derive(Drop)]
 pub struct Side {
     pub link: u32,
-    pub stack: [u32; STACK],
     pub depth: usize,
+    pub stack: [u32; STACK],
 }
 
 // What comes next on both sides, where they part.
@@ -37,8 +37,8 @@ impl Side {
     {
         Side {
             link: link,
-            stack: [0; STACK],
             depth: 0,
+            stack: [0; STACK],
         }
     }
 
@@ -50,9 +50,10 @@ impl Side {
         let i = self.link;
         if i != 0 {
             let d = node_at(ws, i);
-            self.stack[self.depth] = i;
+            let top = self.depth;
+            self.stack[top] = i;
             self.link = d.left;
-            self.depth += 1;
+            self.depth = top + 1;
         }
     }
 
