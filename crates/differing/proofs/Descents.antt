@@ -5,7 +5,6 @@ use mathlib.Core.List.{List, ◌∷◌, ◌++◌, append_assoc, append-nil}
 use mathlib.Core.Option.{Option}
 use Prim.Native.Nat.{ℕ, ◌+◌, ◌<◌}
 use native.Mathlib.Omega.{arith}
-use lib.Dec.{ltb}
 use lib.ListN.{length, set, length-append}
 use Rattle.trees.specs.Tree.{Entry}
 use Rattle.trees.specs.Listing.{Ascending}
@@ -18,17 +17,13 @@ use Rattle.words.specs.Layout.{entry, max_height}
 use Rattle.arena.specs.Nodes.{NodeInside, IsNode}
 use Rattle.arena.specs.declared.Node.{Node}
 use Rattle.lookup.proofs.Descents.{rooted_right}
-use Rattle.ranges.specs.declared.LastKey.{LastKey}
-use Rattle.ranges.specs.declared.LastKey.TheVariants.{Given}
-use Rattle.ranges.specs.Ranges.{last_of}
+use Rattle.lookup.specs.Finding.{Rooted}
 use Rattle.abreast.specs.declared.Side.{Side}
-use Rattle.abreast.specs.Sides.{listed, waiting, ahead, Stands}
+use Rattle.abreast.specs.Sides.{listed, waiting, ahead, Starts}
 use Rattle.abreast.proofs.Listed.{listed_none, listed_node}
-use Rattle.abreast.proofs.Stacks.{rooted_within, node_inside, pushed, sinks_left}
+use Rattle.abreast.proofs.Stacks.{rooted_within, node_inside, pushed_on, pushed, sinks_left}
+use Rattle.abreast.proofs.Starting.{stands_root}
 use Rattle.differing.specs.Filling.{rest, Descends, Turns, Fills}
-
-pub above_given : {l : LastKey} {k : ℕ} (key : ℕ) → l ≡ Given k → ltb k key ≡ beyond (last_of l) key
-above_given key h = rw h
 
 -- What passes of a listing that is split at an entry, as the entry does or not.
 module _ (o : Option ℕ) (xs : List Entry) (e : Entry) (ys : List Entry) (s : Split xs e ys) where
@@ -47,71 +42,80 @@ module _ (o : Option ℕ) (xs : List Entry) (e : Entry) (ys : List Entry) (s : S
       keep_append (keyed (beyond o)) xs (e ∷ ys) ∙
       rw (keep_below (beyond o) e.key t (from_start_up (past o)) xs s.below, t)
 
-module _ {ws : List ℕ} {i : ℕ} {a : List ℕ} {p : ℕ} (D : Descends ws i a p) (s : i ≡ 0 → ⊥) where
-  pub turn_inside : NodeInside ws i
-  turn_inside = node_inside D.stands s
+module _ {ws : List ℕ} {s : Side} (D : Descends ws s) (n : s.link ≡ 0 → ⊥) where
+  pub turn_inside : NodeInside ws s.link
+  turn_inside = node_inside D.stands n
 
-  module _ {d : Node} {t : Bool} (o : Option ℕ) (m : IsNode ws i d) (tested : t ≡ beyond o d.entry.key) where
-    lists : listed max_height ws i ≡ listed max_height ws d.left ++ (entry ws i ∷ listed max_height ws d.right)
-    lists = rw (m.left_is, m.right_is) (listed_node D.stands.rooted max_height (omega arith) s)
+  module _ {d : Node} {t : Bool} (o : Option ℕ) (m : IsNode ws s.link d) (tested : t ≡ beyond o d.entry.key) where
+    -- What the node lists before and after its entry, and what waits on the stack.
+    abbrev pub before : List Entry
+    before = listed max_height ws d.left
 
-    parted : Split (listed max_height ws d.left) (entry ws i) (listed max_height ws d.right)
-    parted = split (listed max_height ws d.left) (entry ws i) (listed max_height ws d.right) (subst Ascending lists D.ordered)
+    abbrev pub after : List Entry
+    after = listed max_height ws d.right
 
-    shorter_left : length (listed max_height ws d.left) < length (listed max_height ws i)
-    shorter_left = rw lists (rw (length-append (listed max_height ws d.left) (entry ws i ∷ listed max_height ws d.right)) (omega arith))
+    abbrev pub stacked : List Entry
+    stacked = waiting ws s.stack s.depth
 
-    shorter_right : length (listed max_height ws d.right) < length (listed max_height ws i)
-    shorter_right = rw lists (rw (length-append (listed max_height ws d.left) (entry ws i ∷ listed max_height ws d.right)) (omega arith))
+    lists : listed max_height ws s.link ≡ before ++ (entry ws s.link ∷ after)
+    lists = rw (m.left_is, m.right_is) (listed_node D.stands.rooted max_height (omega arith) n)
 
-    here : beyond o (entry ws i).key ≡ t
+    parted : Split before (entry ws s.link) after
+    parted = split before (entry ws s.link) after (subst Ascending lists D.ordered)
+
+    shorter_left : length before < length (listed max_height ws s.link)
+    shorter_left = rw lists (rw (length-append before (entry ws s.link ∷ after)) (omega arith))
+
+    shorter_right : length after < length (listed max_height ws s.link)
+    shorter_right = rw lists (rw (length-append before (entry ws s.link ∷ after)) (omega arith))
+
+    here : beyond o (entry ws s.link).key ≡ t
     here = sym (tested ∙ ap (λ (e : Entry). beyond o e.key) m.entry_is)
 
-    pub turn_right : t ≡ false → Turns ws o i a p a (record { link = d.right; depth = p })
+    pub turn_right : t ≡ false → Turns ws o s (record { link = d.right; depth = s.depth; stack = s.stack })
     turn_right y =
         record {
           descends = record {
-            stands = record { rooted = rooted_within (omega arith) (rooted_right D.stands.rooted s m); stacked = D.stands.stacked };
+            stands = record { rooted = rooted_within (omega arith) (rooted_right D.stands.rooted n m); stacked = D.stands.stacked };
             ordered = parted.after;
           };
-          keeps = ap (λ (l : List Entry). rest o l ++ waiting ws a p) lists ∙
-              ap (λ (l : List Entry). l ++ waiting ws a p)
-              (rest_failing o (listed max_height ws d.left) (entry ws i) (listed max_height ws d.right) parted (here ∙ y));
+          keeps = ap (λ (l : List Entry). rest o l ++ stacked) lists ∙
+              ap (λ (l : List Entry). l ++ stacked) (rest_failing o before (entry ws s.link) after parted (here ∙ y));
           shorter = shorter_right;
         }
 
-    pub turn_left : t ≡ true → Turns ws o i a p (set a p i) (record { link = d.left; depth = p + 1 })
+    pub turn_left : t ≡ true → Turns ws o s (pushed_on s d.left)
     turn_left y =
         record {
-          descends = record { stands = (sinks_left D.stands s m).stands; ordered = parted.before };
-          keeps = ap (λ (l : List Entry). rest o l ++ waiting ws a p) lists ∙
-              ap (λ (l : List Entry). l ++ waiting ws a p)
-              (rest_passing o (listed max_height ws d.left) (entry ws i) (listed max_height ws d.right) parted (here ∙ y)) ∙
-              append_assoc (rest o (listed max_height ws d.left)) (entry ws i ∷ listed max_height ws d.right) (waiting ws a p) ∙
-              ap (λ (l : List Entry). rest o (listed max_height ws d.left) ++ l) (sym next);
+          descends = record { stands = (sinks_left D.stands n m).stands; ordered = parted.before };
+          keeps = ap (λ (l : List Entry). rest o l ++ stacked) lists ∙
+              ap (λ (l : List Entry). l ++ stacked) (rest_passing o before (entry ws s.link) after parted (here ∙ y)) ∙
+              append_assoc (rest o before) (entry ws s.link ∷ after) stacked ∙
+              ap (λ (l : List Entry). rest o before ++ l) (sym next);
           shorter = shorter_left;
         }
       where
-        next : waiting ws (set a p i) (p + 1) ≡ entry ws i ∷ (listed max_height ws d.right ++ waiting ws a p)
-        next = pushed D.stands s m ∙ ap (λ (k : ℕ). entry ws i ∷ (listed max_height ws k ++ waiting ws a p)) (sym m.right_is)
+        next : waiting ws (set s.stack s.depth s.link) (s.depth + 1) ≡ entry ws s.link ∷ (after ++ stacked)
+        next = pushed D.stands n m ∙ ap (λ (k : ℕ). entry ws s.link ∷ (listed max_height ws k ++ stacked)) (sym m.right_is)
 
--- The loop: what of the link i is above the last key is that of the link `at`, and the stack.
-pub record Filling (ws : List ℕ) (o : Option ℕ) (i at : ℕ) (a : List ℕ) (p : ℕ) : Type 0 where
-  pub descends : Descends ws at a p
-  pub keeps : rest o (listed max_height ws i) ≡ rest o (listed max_height ws at) ++ waiting ws a p
+-- The loop: what of the link i is above the last key is that of the side's link, and its stack.
+pub record Filling (ws : List ℕ) (o : Option ℕ) (i : ℕ) (s : Side) : Type 0 where
+  pub descends : Descends ws s
+  pub keeps : rest o (listed max_height ws i) ≡ rest o (listed max_height ws s.link) ++ waiting ws s.stack s.depth
 
-pub filling_start : {ws : List ℕ} {i : ℕ} {a : List ℕ} (o : Option ℕ) → Descends ws i a 0 → Filling ws o i i a 0
+pub filling_start : {ws : List ℕ} {i : ℕ} {s : Side} (o : Option ℕ) → Starts i s → Rooted ws i max_height → Ascending (listed max_height ws i) →
+    Filling ws o i s
 unfolding waiting
-filling_start {ws} {i} o D = record { descends = D; keeps = sym (append-nil (rest o (listed max_height ws i))) }
+filling_start {ws} {i} o b k g =
+    record {
+      descends = record { stands = stands_root b k; ordered = rw b.link_is g };
+      keeps = rw (b.link_is, b.empty) (sym (append-nil (rest o (listed max_height ws i))));
+    }
 
-module _ {ws : List ℕ} {o : Option ℕ} {i at : ℕ} {a : List ℕ} {p : ℕ} (F : Filling ws o i at a p) where
-  pub filling_more : {b : List ℕ} {r : Side} → Turns ws o at a p b r → Filling ws o i r.link b r.depth
-  filling_more T = record { descends = T.descends; keeps = F.keeps ∙ T.keeps }
-
-  pub filling_end : at ≡ 0 → Fills ws o i a p
-  unfolding ahead
-  filling_end e =
-      record {
-        stands = subst (λ (k : ℕ). Stands ws k a p) e F.descends.stands;
-        ahead_is = rw (listed_none max_height ws) (sym (F.keeps ∙ rw (e, listed_none max_height ws)));
-      }
+pub filling_end : {ws : List ℕ} {o : Option ℕ} {i : ℕ} {s : Side} → Filling ws o i s → s.link ≡ 0 → Fills ws o i s
+unfolding ahead
+filling_end {ws} F e =
+    record {
+      stands = F.descends.stands;
+      ahead_is = rw (e, listed_none max_height ws) (sym (F.keeps ∙ rw (e, listed_none max_height ws)));
+    }

@@ -14,18 +14,18 @@ abbrev pub rest : Option ℕ → List Entry → List Entry
 rest o xs = keep (λ e. beyond o e.key) xs
 
 -- A side whose link is in order.
-pub record Descends (ws : List ℕ) (i : ℕ) (a : List ℕ) (p : ℕ) : Type 0 where
-  pub stands : Stands ws i a p
-  pub ordered : Ascending (listed max_height ws i)
+pub record Descends (ws : List ℕ) (s : Side) : Type 0 where
+  pub stands : Stands ws s
+  pub ordered : Ascending (listed max_height ws s.link)
 
 -- A round of the descent passes only entries that are not above the last key, and the link has
 -- fewer left.
-pub record Turns (ws : List ℕ) (o : Option ℕ) (i : ℕ) (a : List ℕ) (p : ℕ) (b : List ℕ) (r : Side) : Type 0 where
-  pub descends : Descends ws r.link b r.depth
-  pub keeps : rest o (listed max_height ws i) ++ waiting ws a p ≡ rest o (listed max_height ws r.link) ++ waiting ws b r.depth
-  pub shorter : length (listed max_height ws r.link) < length (listed max_height ws i)
+pub record Turns (ws : List ℕ) (o : Option ℕ) (s t : Side) : Type 0 where
+  pub descends : Descends ws t
+  pub keeps : rest o (listed max_height ws s.link) ++ waiting ws s.stack s.depth ≡ rest o (listed max_height ws t.link) ++ waiting ws t.stack t.depth
+  pub shorter : length (listed max_height ws t.link) < length (listed max_height ws s.link)
 
--- The stack has ahead what of the link i is above the last key.
-pub record Fills (ws : List ℕ) (o : Option ℕ) (i : ℕ) (a : List ℕ) (p : ℕ) : Type 0 where
-  pub stands : Stands ws 0 a p
-  pub ahead_is : ahead ws 0 a p ≡ rest o (listed max_height ws i)
+-- The side has ahead what of the link i is above the last key.
+pub record Fills (ws : List ℕ) (o : Option ℕ) (i : ℕ) (s : Side) : Type 0 where
+  pub stands : Stands ws s
+  pub ahead_is : ahead ws s ≡ rest o (listed max_height ws i)

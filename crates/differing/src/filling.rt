@@ -1,56 +1,54 @@
 // A side of a walk, started above a key: a descent puts on its stack the nodes on the way whose
 // keys are above it, the nearest last.
 ghost use Rattle.std.specs.Prelude.{◌≡◌};
+ghost use Rattle.trees.specs.Listing.{Ascending};
 ghost use Rattle.trees.specs.Difference.{beyond};
+ghost use Rattle.words.specs.Layout.{max_height};
+ghost use Rattle.lookup.specs.Finding.{Rooted};
 ghost use Rattle.ranges.specs.Ranges.{last_of};
+ghost use Rattle.abreast.specs.Sides.{listed};
 ghost use Rattle.differing.specs.Filling.{Descends, Turns, Fills};
 
-use abreast::{STACK, Side};
+use abreast::Side;
 use arena::node_at;
-use ranges::LastKey;
 
-fn above(last: LastKey, key: u32) -> bool
+fn above(last: Option<u32>, key: u32) -> bool
     ensures { result ≡ beyond (last_of last) key }
 {
     match last {
-        LastKey::Given(k) => k < key,
-        LastKey::NotGiven => true,
+        Some(k) => k < key,
+        None => true,
     }
 }
 
 // A round of the descent: a node above the last key goes on the stack, and what is nearer to that
 // key lies to its left; any other node is passed, with all to its left.
-fn turn(ws: &[u32], i: u32, last: LastKey, a: &mut [u32; STACK], p: usize) -> Side
-    requires descends { Descends ws.now i a.old p }
-    requires fact { i ≡ 0 → ⊥ }
-    ensures { Turns ws.now (last_of last) i a.old p a.new result }
+fn turn(side: &mut Side, ws: &[u32], last: Option<u32>)
+    requires descends { Descends ws.now side.old }
+    requires fact { side.old.link ≡ 0 → ⊥ }
+    ensures { Turns ws.now (last_of last) side.old side.new }
 {
+    let i = side.link;
     let d = node_at(ws, i);
-    let e = d.entry;
-    if !above(last, e.key) {
-        return Side {
-            link: d.right,
-            depth: p,
-        };
+    if !above(last, d.entry.key) {
+        side.link = d.right;
+        return;
     }
-    a[p] = i;
-    Side {
-        link: d.left,
-        depth: p + 1,
-    }
+    let top = side.depth;
+    side.stack[top] = i;
+    side.link = d.left;
+    side.depth = top + 1;
 }
 
-// Fills an empty stack with what the link i lists above the last key: how many numbers it has then.
-pub fn fill(ws: &[u32], i: u32, last: LastKey, a: &mut [u32; STACK]) -> usize
-    requires { Descends ws.now i a.old 0 }
-    ensures { Fills ws.now (last_of last) i a.new result }
+// A side that has ahead what the link i lists above the last key.
+pub fn fill(ws: &[u32], i: u32, last: Option<u32>) -> Side
+    requires rooted { Rooted ws.now i max_height }
+    requires ordered { Ascending (listed max_height ws.now i) }
+    ensures { Fills ws.now (last_of last) i result }
 {
-    let mut at = i;
-    let mut p = 0;
-    while at != 0 {
-        let s = turn(ws, at, last, a, p);
-        at = s.link;
-        p = s.depth;
+    let mut side = Side::new(i);
+    while side.link != 0 {
+        turn(&mut side, ws, last);
     }
-    p
+    side
 }

@@ -5,8 +5,8 @@ use Rattle.abreast.specs.Sides.{listed}
 use Rattle.differing.proofs.Descents.{Filling}
 use Rattle.differing.proofs.filling.fill.Given as goal
 
-abbrev pub invariant-loop-at : goal.invariant-loop-at
-invariant-loop-at l = Filling l.ws (last_of l.last) l.i l.at l.a l.p
+abbrev pub invariant-loop-side : goal.invariant-loop-side
+invariant-loop-side l = Filling l.ws (last_of l.last) l.i l.side
 
-abbrev pub decreases-loop-at : goal.decreases-loop-at
-decreases-loop-at l = length (listed max_height l.ws l.at)
+abbrev pub decreases-loop-side : goal.decreases-loop-side
+decreases-loop-side l = length (listed max_height l.ws l.side.link)
