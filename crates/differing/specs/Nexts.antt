@@ -1,5 +1,5 @@
 -- What differs next between two versions, from where their listings above the last key part.
-use Rattle.std.specs.Prelude.{◌≡◌, List, ℕ, ltb, if◌then◌else◌}
+use Rattle.std.specs.Prelude.{◌≡◌, List, ℕ, ltb, if◌then◌else◌, Result}
 use Rattle.std.proofs.Math.Option.{Option, none, some}
 use Rattle.trees.specs.Tree.{Entry, Tree, listing}
 use Rattle.trees.specs.Listing.{Ascending}
@@ -10,7 +10,8 @@ use Rattle.lookup.specs.Finding.{Rooted}
 use Rattle.calls.specs.Refusal.{Refusal}
 use Rattle.calls.specs.Call as call
 use Rattle.calls.specs.Reading.{or_refused}
-use Rattle.answers.specs.declared.DifferenceAnswer.{DifferenceAnswer}
+use Rattle.answers.specs.declared.Refusal as refusals
+use Rattle.answers.specs.declared.Difference as answers
 use Rattle.answers.specs.Answers.{difference_answer}
 
 -- Two next entries that are not the same: the lesser key is missing on the other side.
@@ -36,5 +37,5 @@ pub record Ordered (ws : List ℕ) (i : ℕ) : Type 0 where
   pub ordered : Ascending (listing rooted.tree)
 
 -- Whatever trees the links i and j hold, r tells what differs next between their listings.
-pub record Differs (ws : List ℕ) (i j : ℕ) (o : Option ℕ) (r : DifferenceAnswer) : Type 0 where
+pub record Differs (ws : List ℕ) (i j : ℕ) (o : Option ℕ) (r : Result answers.Difference refusals.Refusal) : Type 0 where
   pub says : (n : ℕ) (t u : Tree) → Reads n ws i t → Reads n ws j u → difference_answer r ≡ or_ended (next_difference o (listing t) (listing u))

@@ -16,77 +16,58 @@ ghost use Rattle.differing.specs.Nexts.{entries_differ, heads_differ, or_ended, 
 ghost use Rattle.differing.specs.Positions.{differences_of};
 
 use crate::filling::fill;
-use abreast::{Heads, STACK, walk};
-use answers::{Difference, DifferenceAnswer, Entered, Refusal, enter};
+use abreast::{Heads, walk};
+use answers::{Difference, Refusal, enter};
 use arena::Entry;
-use lookup::Found;
-use ranges::LastKey;
+use std::cmp::Ordering;
 
 // RULES 8.9: what the caller keeps, by value.
 #[derive(Clone, Copy)]
 pub struct Differences {
     pub first: u32,
     pub second: u32,
-    pub given: LastKey,
+    pub given: Option<u32>,
 }
 
 // Two next entries that are not the same: the lesser key is missing on the other side.
 fn of_both(x: Entry, y: Entry) -> Difference
     ensures { difference_of result ≡ entries_differ (entry_of x) (entry_of y) }
 {
-    if x.key < y.key {
-        return Difference::OnlyFirst(x);
+    match x.key.cmp(&y.key) {
+        Ordering::Less => Difference::OnlyFirst(x),
+        Ordering::Greater => Difference::OnlySecond(y),
+        Ordering::Equal => Difference::InBoth(x, y),
     }
-    if y.key < x.key {
-        return Difference::OnlySecond(y);
-    }
-    Difference::InBoth(x, y)
 }
 
 // What differs where two versions part, or END where neither goes on.
-fn of_heads(h: Heads) -> DifferenceAnswer
+fn of_heads(h: Heads) -> Result<Difference, Refusal>
     ensures { difference_answer result ≡ or_ended (heads_differ (found_of h.one) (found_of h.other)) }
 {
-    let one = h.one;
-    let other = h.other;
-    match one {
-        Found::Nothing => match other {
-            Found::Nothing => DifferenceAnswer::Refused(Refusal::End),
-            Found::At(y) => DifferenceAnswer::Difference(Difference::OnlySecond(y)),
-        },
-        Found::At(x) => match other {
-            Found::Nothing => DifferenceAnswer::Difference(Difference::OnlyFirst(x)),
-            Found::At(y) => DifferenceAnswer::Difference(of_both(x, y)),
-        },
+    match (h.one, h.other) {
+        (None, None) => Err(Refusal::End),
+        (None, Some(y)) => Ok(Difference::OnlySecond(y)),
+        (Some(x), None) => Ok(Difference::OnlyFirst(x)),
+        (Some(x), Some(y)) => Ok(of_both(x, y)),
     }
 }
 
 // What differs next between the versions whose roots are the links i and j.
-fn next_difference(ws: &[u32], i: u32, j: u32, last: LastKey) -> DifferenceAnswer
+fn next_difference(ws: &[u32], i: u32, j: u32, last: Option<u32>) -> Result<Difference, Refusal>
     requires ordered { Ordered ws.now i }
     requires ordered_other { Ordered ws.now j }
     ensures { Differs ws.now i j (last_of last) result }
 {
-    let mut a = [0u32; STACK];
-    let mut b = [0u32; STACK];
-    let p = fill(ws, i, last, &mut a);
-    let q = fill(ws, j, last, &mut b);
-    let h = walk(ws, 0, 0, &mut a, p, &mut b, q);
-    of_heads(h)
+    let mut one = fill(ws, i, last);
+    let mut other = fill(ws, j, last);
+    of_heads(walk(ws, &mut one, &mut other))
 }
 
-pub fn step_difference(ws: &[u32], x: Differences) -> DifferenceAnswer
+pub fn step_difference(ws: &[u32], x: Differences) -> Result<Difference, Refusal>
     requires { Sound ws.now }
     ensures { Outcome (Call.difference (differences_of x)) ws.now (difference_answer result) ws.now }
 {
-    let first = x.first;
-    let second = x.second;
-    let given = x.given;
-    match enter(ws, first) {
-        Entered::Refused(r) => DifferenceAnswer::Refused(r),
-        Entered::Root(i) => match enter(ws, second) {
-            Entered::Refused(r) => DifferenceAnswer::Refused(r),
-            Entered::Root(j) => next_difference(ws, i, j, given),
-        },
-    }
+    let i = enter(ws, x.first)?;
+    let j = enter(ws, x.second)?;
+    next_difference(ws, i, j, x.given)
 }

@@ -1,11 +1,11 @@
-use Rattle.differing.proofs.Nexts.{descends_root, differs}
+use Rattle.differing.proofs.Nexts.{lists_ordered, differs}
 use Rattle.differing.proofs.next_difference.Goals as goal
 
-pub fill-p-requires : goal.fill-p-requires
-fill-p-requires c = search descends_root
+pub fill-one-requires-clause-ordered : goal.fill-one-requires-clause-ordered
+fill-one-requires-clause-ordered c = search lists_ordered
 
-pub fill-q-requires : goal.fill-q-requires
-fill-q-requires c = search descends_root
+pub fill-other-requires-clause-ordered : goal.fill-other-requires-clause-ordered
+fill-other-requires-clause-ordered c = search lists_ordered
 
 pub returns : goal.returns
 returns c = search differs
