@@ -1,20 +1,17 @@
 -- The two halves of the test make the verdict, and the verdict an answer.
 use mathlib.Core.Path.{◌≡◌, ap, sym, ◌∙◌}
-use mathlib.Core.Bool.{Bool, true, false}
+use mathlib.Core.Bool.{Bool, true}
 use mathlib.Core.List.{List}
-use Prim.Native.Nat.{ℕ, ◌-◌, ◌*◌, ◌≤◌, ◌<◌}
+use Prim.Native.Nat.{ℕ, ◌-◌, ◌≤◌}
 use native.Mathlib.Omega.{arith}
-use native.Mathlib.Decide.{dec_lt}
-use lib.ListN.{length, get_or, replicate, length-replicate, get_or-replicate, get_or-eq_default}
 use Rattle.std.specs.Prelude.{Option, Some, None, is_some}
 use Rattle.words.specs.Layout.{nodes}
 use Rattle.words.specs.Sound.{Sound}
 use Rattle.soundness_laws.specs.Answer.{Answers, Decides}
-use Rattle.soundness_laws.specs.Within.{Within}
-use Rattle.soundness_laws.specs.Queue.{Blank, Onward}
+use Rattle.soundness_laws.specs.Queue.{Onward}
 use Rattle.soundness_laws.specs.Whole.{Whole, SoundWith}
 use Rattle.soundness_laws.proofs.Saying.{say_yes, say_no, gone_on}
-use Rattle.soundness.specs.Verdict.{Verdict, Scratch}
+use Rattle.soundness.specs.Verdict.{Verdict}
 
 -- The first half says that k nodes are live.
 module _ (ws queue : List ℕ) (k : ℕ) (a : Onward ws (Some k) (Whole ws queue)) where
@@ -26,27 +23,8 @@ module _ (ws queue : List ℕ) (k : ℕ) (a : Onward ws (Some k) (Whole ws queue
 
   -- The second half answers b.
   module _ (b : Bool) (d : Answers b (SoundWith ws (nodes ws - k)) (Sound ws → ⊥)) where
-    pub no_versions : b ≡ false → Verdict ws None
-    no_versions e = d.no e
-
     pub both_right : b ≡ true → (n : ℕ) → n ≡ nodes ws → Verdict ws (Some (n - k))
     both_right e n en = let w = d.yes e in (w.0, w.1 ∙ sym (ap (λ (m : ℕ). m - k) en))
-
--- Fresh arrays are scratch enough.
-replicate_blank : (m : ℕ) → Blank (replicate {A = ℕ} m 0)
-replicate_blank m = record { zeros = λ x. go x (dec_lt x m) }
-  where
-    go : (x : ℕ) → Dec (x < m) → get_or (replicate {A = ℕ} m 0) x 0 ≡ 0
-    go x (yes h) = get_or-replicate {A = ℕ} m x 0 0 h
-    go x (no h) = get_or-eq_default {A = ℕ} (replicate m 0) 0 (omega (arith, length-replicate {A = ℕ} m 0))
-
-pub fresh_scratch : (k : ℕ) (ws : List ℕ) → Within ws → nodes ws < k → (e : ℕ) → e ≡ 2 * k → Scratch ws (replicate k 0) (replicate e 0) (replicate k 0)
-fresh_scratch k ws w h e ee =
-    let room : nodes ws < length (replicate {A = ℕ} k 0) = omega (arith, length-replicate {A = ℕ} k 0) in
-    record {
-      fresh = record { within = w; room = room; blank = replicate_blank k; space = room };
-      room = record { memo_room = room; ends_room = omega (arith, length-replicate {A = ℕ} e 0) };
-    }
 
 pub verdict_some : (ws : List ℕ) (r : Option ℕ) → Verdict ws r → (b : Bool) → b ≡ is_some r → Decides b (Sound ws)
 verdict_some ws (Some f) v b e = rw e (say_yes v.0)

@@ -1,33 +1,23 @@
 -- A summary that was packed is read back, and the others stay.
 use mathlib.Core.Path.{◌≡◌, refl, ◌∙◌}
 use mathlib.Core.Bool.{Bool, true}
-use mathlib.Core.Logic.{⊎_elim}
 use mathlib.Core.List.{List}
 use Prim.Native.Nat.{ℕ, ◌+◌, ◌*◌, ◌/◌, ◌%◌, ◌≤◌, ◌<◌}
 use native.Mathlib.Omega.{arith}
 use lib.ListN.{length, get_or, set, length-set}
 use lib.Seq.{get_or-set_same, get_or-set_other}
 use Rattle.words.specs.Layout.{nodes}
-use Rattle.words.proofs.Holding.{reads_link}
 use Rattle.soundness_laws.specs.Summary.{Brief, empty_brief}
 use Rattle.soundness_laws.specs.Answer.{Answers}
 use Rattle.soundness_laws.proofs.Saying.{say_yes}
 use Rattle.soundness_laws.specs.Packed.{shape, dark, packed, briefs, Packable, Places, Room, KeysApart, Put, RightPut, BothPut}
-use Rattle.soundness_laws.specs.Known.{Known, Noted}
+use Rattle.soundness_laws.specs.Known.{Noted}
 
 pub places : (ws memo ends : List ℕ) (x : ℕ) → Room ws memo ends → x ≤ nodes ws → Places memo ends x
 places ws memo ends x r h = record { memo_room = omega (arith, r.memo_room); ends_room = omega (arith, r.ends_room) }
 
 pub room_kept : (ws memo ends memo' ends' : List ℕ) → Room ws memo ends → length memo' ≡ length memo → length ends' ≡ length ends → Room ws memo' ends'
 room_kept ws memo ends memo' ends' r m e = record { memo_room = omega (arith, r.memo_room); ends_room = omega (arith, r.ends_room) }
-
--- The places of a link that is known, where y is that link, as it was read.
-pub known_places : (ws memo ends : List ℕ) (B : ℕ → Brief) (x y : ℕ) → y ≡ x → Known ws B x → Room ws memo ends → Places memo ends y
-known_places ws memo ends B x y e K r =
-    ⊎_elim
-    (λ z. places ws memo ends y r (omega arith))
-    (λ h. places ws memo ends y r (omega (arith, h.1)))
-    (reads_link (nodes ws) ws x K.tree K.holds)
 
 module _ (memo ends : List ℕ) (i : ℕ) (b : Brief) (p : Places memo ends i) (f : Packable b) where
   abbrev memo' : List ℕ

@@ -15,7 +15,7 @@ use Rattle.words.proofs.Holding.{reads_link}
 use Rattle.words.proofs.SoundOwned.{sound_owned}
 use Rattle.soundness_laws.proofs.Saying.{going}
 use Rattle.soundness_laws.proofs.Slots.{root_read}
-use Rattle.soundness_laws.specs.Queue.{Fresh, met, Full, Surplus, Arrives, Roots, Heads, Onward}
+use Rattle.soundness_laws.specs.Queue.{Fresh, met, Full, Surplus, Arrives, Roots, Onward}
 use Rattle.soundness_laws.proofs.Filling.{plus}
 use Rattle.soundness_laws.proofs.Arriving.{queue_as, queue_arrived, arrived_link}
 use Rattle.soundness_laws.proofs.Meeting.{met_slot, slots_low}
@@ -113,14 +113,3 @@ module _ (ws : List ℕ) (s : ℕ) (names queue : List ℕ) (tail : ℕ) (R : Ro
                 };
             stop = λ e. root_over (a.stop e);
           }
-
--- All roots are met, and no node of the queue is looked at yet.
-pub roots_end : (ws : List ℕ) (s : ℕ) (names queue : List ℕ) (tail : ℕ) → Roots ws s names queue tail → slots ws ≤ s → Heads ws 0 names queue tail
-roots_end ws s names queue tail R l =
-    let e : s ≡ slots ws = omega (arith, R.high) in
-    record {
-      queued = rw (← e) R.queued;
-      high = omega arith;
-      links = λ k h. R.links k (omega (arith, h.inside)) h;
-      past = λ p h. absurd (omega arith);
-    }

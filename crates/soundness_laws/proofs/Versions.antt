@@ -7,7 +7,7 @@ use Prim.Native.Nat.{ℕ, ◌+◌, ◌/◌, ◌%◌, ◌≤◌, ◌<◌}
 use native.Mathlib.Omega.{arith}
 use lib.ListN.{get_or}
 use lib.Dec.{eqb}
-use borrow.Author.Count.{below_none, below_more}
+use borrow.Author.Count.{below_more}
 use Rattle.trees.specs.Tree.{red, Tree, size, is_red}
 use Rattle.trees.specs.Shape.{Fine}
 use Rattle.words.specs.Layout.{nodes, slots, code, slot_root, slot_size, not_held}
@@ -16,11 +16,11 @@ use Rattle.words.specs.Owned.{Version, Sized}
 use Rattle.words.proofs.Holding.{reads_same, reads_link}
 use Rattle.soundness_laws.specs.Answer.{Decides}
 use Rattle.soundness_laws.specs.Summary.{Brief, Tells}
-use Rattle.soundness_laws.proofs.Saying.{say_yes, say_no, say_equal}
+use Rattle.soundness_laws.proofs.Saying.{say_no, say_equal}
 use Rattle.soundness_laws.proofs.Slots.{root_read, size_read}
 use Rattle.soundness_laws.proofs.Joining.{shade_black, black_shade}
 use Rattle.soundness_laws.specs.Packed.{dark, briefs}
-use Rattle.soundness_laws.specs.Whole.{SlotRight, SlotsRight}
+use Rattle.soundness_laws.specs.Whole.{SlotRight}
 use Rattle.soundness_laws.specs.Known.{Known, AllKnown}
 
 -- n is the number of nodes, x the root and z the size of slot s, as they were read.
@@ -47,11 +47,6 @@ module _ (ws : List ℕ) (B : ℕ → Brief) (A : AllKnown ws B) (s : ℕ) (l : 
 
     root_known : Known ws B x
     root_known = rw ex (A.roots s used)
-
-    pub root_link : x ≤ nodes ws
-    root_link =
-        let K = root_known in
-        ⊎_elim (λ z. omega arith) (λ h. h.1) (reads_link (nodes ws) ws x K.tree K.holds)
 
     module _ (b : Brief) (eb : b ≡ B x) where
       there : (t : Tree) × Reads (nodes ws) ws (slot_root (nodes ws) ws s) t × Tells b t
@@ -105,17 +100,8 @@ pub record SlotsTo (ws : List ℕ) (v s : ℕ) : Type 0 where
   pub high : s ≤ v
   pub are : (k : ℕ) → k < s → SlotRight ws k
 
-pub slots_start : (ws : List ℕ) (v : ℕ) → v ≡ slots ws → SlotsTo ws v 0
-slots_start ws v e = record { v_is = e; high = omega arith; are = below_none (SlotRight ws) }
-
 module _ (ws : List ℕ) (v s : ℕ) (t : SlotsTo ws v s) where
-  pub slots_end : v ≤ s → Decides true (SlotsRight ws)
-  slots_end l = say_yes (record { are = λ k p. t.are k (omega (arith, t.v_is)) })
-
   module _ (l : s < v) (r : Bool) (d : Decides r (SlotRight ws s)) where
-    pub slots_no : r ≡ false → Decides false (SlotsRight ws)
-    slots_no e = say_no (λ z. d.no e (z.are s (omega (arith, t.v_is))))
-
     pub slots_more : r ≡ true → SlotsTo ws v (s + 1)
     slots_more e = record { v_is = t.v_is; high = omega arith; are = below_more (SlotRight ws) s t.are (d.yes e) }
 
