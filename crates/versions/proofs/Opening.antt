@@ -1,13 +1,12 @@
 -- The tests of hold, insert and remove: a version, and a slot to hand out.
 use mathlib.Core.Path.{◌≡◌, ap, sym, ◌∙◌, subst}
 use mathlib.Core.List.{List, [], ◌∷◌}
-use Prim.Native.Nat.{ℕ, ◌+◌, ◌≤◌, ◌<◌}
+use Prim.Native.Nat.{ℕ, ◌≤◌, ◌<◌}
 use native.Mathlib.Omega.{arith}
-use native.Mathlib.Decide.{ℕ_discrete}
 use Rattle.std.specs.Prelude.{Option, Some, None, Result, Ok, Err}
-use Rattle.std.specs.Option.{ok_or}
+use Rattle.std.specs.Option.{ok_or, MatchOption}
 use Rattle.std.specs.Result.{IsErrAnd}
-use Rattle.words.specs.Layout.{nodes, slots, slot_root, slot_size}
+use Rattle.words.specs.Layout.{nodes, slots, slot_root, slot_size, not_held}
 use Rattle.words.specs.Reads.{Held}
 use Rattle.words.specs.Sound.{Sound}
 use Rattle.calls.specs.Refusal as calls
@@ -30,49 +29,43 @@ pub handed_on : {A : Type 0} {y : Result A Refusal} {r : Refusal} → IsErrAnd y
 handed_on {y = Ok a} h = absurd h
 handed_on {y = Err z} h = ap Err h
 
--- All slots below q are held.
-pub record Scanned (ws : List ℕ) (q : ℕ) : Type 0 where
-  pub below : (s : ℕ) → s < q → Held ws s
+-- The word of slot q says that it is not held.
+abbrev pub Unheld : List ℕ → ℕ → ℕ → Type 0
+Unheld ws n q = slot_root n ws q ≡ not_held
 
-pub scan_start : {ws : List ℕ} → Scanned ws 0
-scan_start = record { below = λ s l. absurd (omega arith) }
+-- The first such slot below v, or none.
+module _ {ws : List ℕ} {n v : ℕ} (e : n ≡ nodes ws) (f : v ≡ slots ws) where
+  held : (q : ℕ) → q < v → (Unheld ws n q → ⊥) → Held ws q
+  held q l h = record { inside = omega arith; held = λ z. h (ap (λ (m : ℕ). slot_root m ws q) e ∙ z) }
 
-module _ {ws : List ℕ} {q v : ℕ} (k : Scanned ws q) (f : v ≡ slots ws) where
-  pub scan_full : v ≤ q → LowestIs ws None
-  scan_full l = record { is = λ s h. k.below s (omega arith) }
-
-  module _ {n i : ℕ} (l : q < v) (m : n ≡ nodes ws) (e : i ≡ slot_root n ws q) where
-    here : i ≡ slot_root (nodes ws) ws q
-    here = e ∙ ap (λ (m : ℕ). slot_root m ws q) m
-
-    pub scan_found : i ≡ 4294967295 → LowestIs ws (Some q)
-    scan_found z = record { is = record { below = omega arith; unheld = λ h. h.held (sym here ∙ z); lower_held = k.below } }
-
-    pub scan_more : (i ≡ 4294967295 → ⊥) → Scanned ws (q + 1)
-    scan_more z = record { below = below }
-      where
-        below : (s : ℕ) → s < q + 1 → Held ws s
-        below s m = go (ℕ_discrete s q)
-          where
-            go : Dec (s ≡ q) → Held ws s
-            go (yes e) = rw e (record { inside = omega arith; held = λ h. z (here ∙ h) })
-            go (no d) = k.below s (omega arith)
+  pub lowest_found : (r : Option ℕ) →
+      MatchOption r ((q : ℕ) → 0 ≤ q → q < v → Unheld ws n q → ⊥) (λ q. (0 ≤ q) × (q < v) × Unheld ws n q × ((s : ℕ) → 0 ≤ s → s < q → Unheld ws n s → ⊥)) →
+      LowestIs ws r
+  lowest_found None h = record { is = λ q l. held q (omega arith) (h q (omega arith) (omega arith)) }
+  lowest_found (Some q) h =
+      record {
+        is = record {
+          below = omega (arith, h.1);
+          unheld = λ k. k.held (ap (λ (m : ℕ). slot_root m ws q) (sym e) ∙ h.2);
+          lower_held = λ s l. held s (omega (arith, h.1)) (h.3 s (omega arith) l);
+        };
+      }
 
 -- A slot to hand out, or the refusal NO_SLOT.
 module _ {ws : List ℕ} {o : Option ℕ} {x : Result ℕ Refusal} (l : LowestIs ws o) (t : x ≡ ok_or o NoSlot) where
-  taken : (o : Option ℕ) → LowestIs ws o → {q : ℕ} → ok_or o NoSlot ≡ Ok q → Lowest ws q
-  taken (Some a) l {q} e = let z : a ≡ q = cc in rw (← z) l.is
-  taken None l e = cc
+  given : (o : Option ℕ) → LowestIs ws o → {q : ℕ} → ok_or o NoSlot ≡ Ok q → Lowest ws q
+  given (Some a) l {q} e = let z : a ≡ q = cc in rw (← z) l.is
+  given None l e = cc
 
-  none : (o : Option ℕ) → LowestIs ws o → {r : Refusal} → ok_or o NoSlot ≡ Err r → (r ≡ NoSlot) × AllSlotsHeld ws
-  none (Some a) l e = cc
-  none None l e = (cc, l.is)
+  refused : (o : Option ℕ) → LowestIs ws o → {r : Refusal} → ok_or o NoSlot ≡ Err r → (r ≡ NoSlot) × AllSlotsHeld ws
+  refused (Some a) l e = cc
+  refused None l e = (cc, l.is)
 
   pub lowest_of : {q : ℕ} → x ≡ Ok q → Lowest ws q
-  lowest_of e = taken o l (sym t ∙ e)
+  lowest_of e = given o l (sym t ∙ e)
 
   pub all_held : {r : Refusal} → x ≡ Err r → (r ≡ NoSlot) × AllSlotsHeld ws
-  all_held e = none o l (sym t ∙ e)
+  all_held e = refused o l (sym t ∙ e)
 
 module _ {ws : List ℕ} {s : ℕ} {x : Result ℕ Refusal} (S : Sound ws) (g : Enters ws s x) where
   pub open_refused : {y : Result Parent Refusal} {r : Refusal} → x ≡ Err r → IsErrAnd y (λ z. z ≡ r) → Opens ws s y

@@ -29,12 +29,7 @@ fn lowest_slot(ws: &[u32]) -> Option<u32>
     ensures { LowestIs ws.now result }
 {
     let n = nodes_of(ws);
-    for q in 0..slots_of(ws) {
-        if slot_root(ws, n, q) == NOT_HELD {
-            return Some(q);
-        }
-    }
-    None
+    (0..slots_of(ws)).find(|&q| slot_root(ws, n, q) == NOT_HELD)
 }
 
 // The tests of hold, insert and remove: slot s is held, and a slot is not.

@@ -1,18 +1,12 @@
-use Rattle.answers.proofs.Entries.{slot_inside}
-use Rattle.versions.proofs.Opening.{scan_start, scan_found, scan_more, scan_full}
+use Rattle.std.proofs.Common.{arith, rules, tests}
+use Rattle.std.proofs.lemmas.Iterator.{first_from_Range}
+use Rattle.versions.proofs.Opening.{Unheld, lowest_found}
 use Rattle.versions.proofs.lowest_slot.Goals as goal
 
-pub loop-q-init : goal.loop-q-init
-loop-q-init c = search scan_start
-
-pub slot_root-requires : goal.slot_root-requires
-slot_root-requires c = search slot_inside
-
-pub returns-then-slot_root : goal.returns-then-slot_root
-returns-then-slot_root c = search scan_found
-
-pub loop-q-preserved : goal.loop-q-preserved
-loop-q-preserved c = search scan_more
-
 pub returns : goal.returns
-returns c = search scan_full
+returns c =
+    let Free = Unheld c.args.ws.now c.nodes_of-n.result in
+    lowest_found c.nodes_of-n.ensures c.slots_of.ensures _
+    (first_from_Range _ _ _ _ Free (λ q. Free q → ⊥) c.find.ensures.ran
+    (λ q f k. grind (arith, tests))
+    (λ q f k. (search rules, grind (arith, tests))))
