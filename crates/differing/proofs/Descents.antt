@@ -17,12 +17,10 @@ use Rattle.words.specs.Layout.{entry, max_height}
 use Rattle.arena.specs.Nodes.{NodeInside, IsNode}
 use Rattle.arena.specs.declared.Node.{Node}
 use Rattle.lookup.proofs.Descents.{rooted_right}
-use Rattle.lookup.specs.Finding.{Rooted}
 use Rattle.abreast.specs.declared.Side.{Side}
-use Rattle.abreast.specs.Sides.{listed, waiting, ahead, Starts}
+use Rattle.abreast.specs.Sides.{listed, waiting, ahead}
 use Rattle.abreast.proofs.Listed.{listed_none, listed_node}
 use Rattle.abreast.proofs.Stacks.{rooted_within, node_inside, pushed_on, pushed, sinks_left}
-use Rattle.abreast.proofs.Starting.{stands_root}
 use Rattle.differing.specs.Filling.{rest, Descends, Turns, Fills}
 
 -- What passes of a listing that is split at an entry, as the entry does or not.
@@ -103,14 +101,9 @@ pub record Filling (ws : List ℕ) (o : Option ℕ) (i : ℕ) (s : Side) : Type 
   pub descends : Descends ws s
   pub keeps : rest o (listed max_height ws i) ≡ rest o (listed max_height ws s.link) ++ waiting ws s.stack s.depth
 
-pub filling_start : {ws : List ℕ} {i : ℕ} {s : Side} (o : Option ℕ) → Starts i s → Rooted ws i max_height → Ascending (listed max_height ws i) →
-    Filling ws o i s
+pub filling_start : {ws : List ℕ} {s : Side} (o : Option ℕ) → Descends ws s → s.depth ≡ 0 → Filling ws o s.link s
 unfolding waiting
-filling_start {ws} {i} o b k g =
-    record {
-      descends = record { stands = stands_root b k; ordered = rw b.link_is g };
-      keeps = rw (b.link_is, b.empty) (sym (append-nil (rest o (listed max_height ws i))));
-    }
+filling_start {ws} {s} o D e = record { descends = D; keeps = rw e (sym (append-nil (rest o (listed max_height ws s.link)))) }
 
 pub filling_end : {ws : List ℕ} {o : Option ℕ} {i : ℕ} {s : Side} → Filling ws o i s → s.link ≡ 0 → Fills ws o i s
 unfolding ahead

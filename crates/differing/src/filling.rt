@@ -1,12 +1,8 @@
 // A side of a walk, started above a key: a descent puts on its stack the nodes on the way whose
 // keys are above it, the nearest last.
 ghost use Rattle.std.specs.Prelude.{◌≡◌};
-ghost use Rattle.trees.specs.Listing.{Ascending};
 ghost use Rattle.trees.specs.Difference.{beyond};
-ghost use Rattle.words.specs.Layout.{max_height};
-ghost use Rattle.lookup.specs.Finding.{Rooted};
 ghost use Rattle.ranges.specs.Ranges.{last_of};
-ghost use Rattle.abreast.specs.Sides.{listed};
 ghost use Rattle.differing.specs.Filling.{Descends, Turns, Fills};
 
 use abreast::Side;
@@ -23,7 +19,7 @@ fn above(last: Option<u32>, key: u32) -> bool
 
 // A round of the descent: a node above the last key goes on the stack, and what is nearer to that
 // key lies to its left; any other node is passed, with all to its left.
-fn turn(side: &mut Side, ws: &[u32], last: Option<u32>)
+fn turn(ws: &[u32], side: &mut Side, last: Option<u32>)
     requires descends { Descends ws.now side.old }
     requires fact { side.old.link ≡ 0 → ⊥ }
     ensures { Turns ws.now (last_of last) side.old side.new }
@@ -40,15 +36,14 @@ fn turn(side: &mut Side, ws: &[u32], last: Option<u32>)
     side.depth = top + 1;
 }
 
-// A side that has ahead what the link i lists above the last key.
-pub fn fill(ws: &[u32], i: u32, last: Option<u32>) -> Side
-    requires rooted { Rooted ws.now i max_height }
-    requires ordered { Ascending (listed max_height ws.now i) }
-    ensures { Fills ws.now (last_of last) i result }
+// Fills the empty stack of a side with what its link lists above the last key. The side is lent and
+// not handed back, as a stack is 23 words.
+pub fn fill(ws: &[u32], side: &mut Side, last: Option<u32>)
+    requires descends { Descends ws.now side.old }
+    requires empty { side.old.depth ≡ 0 }
+    ensures { Fills ws.now (last_of last) side.old.link side.new }
 {
-    let mut side = Side::new(i);
     while side.link != 0 {
-        turn(&mut side, ws, last);
+        turn(ws, side, last);
     }
-    side
 }

@@ -16,7 +16,7 @@ ghost use Rattle.differing.specs.Nexts.{entries_differ, heads_differ, or_ended, 
 ghost use Rattle.differing.specs.Positions.{differences_of};
 
 use crate::filling::fill;
-use abreast::{Heads, walk};
+use abreast::{Heads, Side, walk};
 use answers::{Difference, Refusal, enter};
 use arena::Entry;
 use std::cmp::Ordering;
@@ -58,8 +58,10 @@ fn next_difference(ws: &[u32], i: u32, j: u32, last: Option<u32>) -> Result<Diff
     requires ordered_other { Ordered ws.now j }
     ensures { Differs ws.now i j (last_of last) result }
 {
-    let mut one = fill(ws, i, last);
-    let mut other = fill(ws, j, last);
+    let mut one = Side::new(i);
+    let mut other = Side::new(j);
+    fill(ws, &mut one, last);
+    fill(ws, &mut other, last);
     of_heads(walk(ws, &mut one, &mut other))
 }
 

@@ -1,11 +1,11 @@
-use Rattle.differing.proofs.Nexts.{lists_ordered, differs}
+use Rattle.differing.proofs.Nexts.{descends_root, differs}
 use Rattle.differing.proofs.next_difference.Goals as goal
 
-pub fill-one-requires-clause-ordered : goal.fill-one-requires-clause-ordered
-fill-one-requires-clause-ordered c = search lists_ordered
+pub fill-requires-clause-descends : goal.fill-requires-clause-descends
+fill-requires-clause-descends c = search descends_root
 
-pub fill-other-requires-clause-ordered : goal.fill-other-requires-clause-ordered
-fill-other-requires-clause-ordered c = search lists_ordered
+pub fill-requires-2-clause-descends : goal.fill-requires-2-clause-descends
+fill-requires-2-clause-descends c = search descends_root
 
 pub returns : goal.returns
 returns c = search differs
