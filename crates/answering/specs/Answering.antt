@@ -1,19 +1,15 @@
 -- What the program makes of a command, RULES 9.6 to 9.13: the call, and the reply to what the call
 -- answers.
 use Rattle.std.specs.Prelude.{◌≡◌, List, ℕ, ◌≤◌, eqb, if◌then◌else◌}
-use Rattle.std.proofs.Math.Option.{Option, none}
-use Rattle.trees.specs.Range.{unbounded, front}
+use Rattle.std.proofs.Math.Option.{none}
+use Rattle.trees.specs.Range.{front}
 use Rattle.calls.specs.Refusal.{Refusal, number}
-use Rattle.calls.specs.Call.{Walk, Call, Answer}
+use Rattle.calls.specs.Call.{Call, Answer}
 use Rattle.calls.specs.Outcome.{Outcome}
+use Rattle.walking.specs.Walks.{walk_from}
 use Rattle.decimal.specs.Decimal.{largest}
 use Rattle.commands.specs.declared.Command.{Command}
 use Rattle.replies.specs.declared.Reply.{Reply}
-
--- RULES 9.12: "front steps over S, unbounded": the walk that has given the entries up to a last
--- key, if any.
-abbrev pub walk_from : ℕ → Option ℕ → Walk
-walk_from s last = record { slot = s; range = record { start = unbounded; end = unbounded; given_front = last; given_back = none } }
 
 -- RULES 9.6 to 9.12, the column "call". A listing is a walk; this is its first step.
 abbrev pub call_of : Command → Call

@@ -9,95 +9,63 @@ ghost use Rattle.calls.specs.Call.{Call, Answer};
 ghost use Rattle.arena.specs.Nodes.{entry_of};
 ghost use Rattle.ranges.specs.Ranges.{last_of};
 ghost use Rattle.answers.specs.Answers.{refusal_of, value_answer, entry_answer};
-ghost use Rattle.walking.specs.Walks.{walk_of};
+ghost use Rattle.walking.specs.Walks.{walk_from};
 ghost use Rattle.versions.specs.Slots.{slot_answer, done_answer};
-ghost use Rattle.answering.specs.Answering.{walk_from, call_of, RepliesTo, Replies};
+ghost use Rattle.answering.specs.Answering.{call_of, RepliesTo, Replies};
 
-use answers::{EntryAnswer, Refusal, ValueAnswer};
+use answers::Refusal;
 use arena::Entry;
 use commands::Command;
-use ranges::{Bound, LastKey, Range};
+use lookup::End;
 use red_black_tree_map::{get, hold, insert, new_version, release, remove, step_front};
 use replies::Reply;
-use versions::{DoneAnswer, SlotAnswer};
 use walking::Walk;
-
-// RULES 4.29: the number of END.
-const END: u32 = 8;
 
 fn refusal_reply(r: Refusal) -> Reply
     ensures { RepliesTo (Answer.refused (refusal_of r)) result }
 {
-    let n = answers::number(r);
-    if n == END {
-        return Reply::End;
+    match r {
+        Refusal::End => Reply::End,
+        other => Reply::Refused(u32::from(other)),
     }
-    Reply::Refused(n)
 }
 
-fn slot_reply(a: SlotAnswer) -> Reply
-    ensures { RepliesTo (slot_answer a) result }
+// The number of a slot, or a value.
+fn number_reply(a: Result<u32, Refusal>) -> Reply
+    ensures slot { RepliesTo (slot_answer a) result }
+    ensures value { RepliesTo (value_answer a) result }
 {
     match a {
-        SlotAnswer::Slot(s) => Reply::Number(s),
-        SlotAnswer::Refused(r) => refusal_reply(r),
+        Ok(n) => Reply::Number(n),
+        Err(r) => refusal_reply(r),
     }
 }
 
-fn done_reply(a: DoneAnswer) -> Reply
+fn done_reply(a: Result<(), Refusal>) -> Reply
     ensures { RepliesTo (done_answer a) result }
 {
     match a {
-        DoneAnswer::Done => Reply::Done,
-        DoneAnswer::Refused(r) => refusal_reply(r),
+        Ok(()) => Reply::Done,
+        Err(r) => refusal_reply(r),
     }
 }
 
-fn value_reply(a: ValueAnswer) -> Reply
-    ensures { RepliesTo (value_answer a) result }
-{
-    match a {
-        ValueAnswer::Value(v) => Reply::Number(v),
-        ValueAnswer::Refused(r) => refusal_reply(r),
-    }
-}
-
-// The line of an entry.
-fn entry_line(e: Entry) -> Reply
-    ensures { RepliesTo (Answer.entry (entry_of e)) result }
-{
-    Reply::Entry(e.key, e.value)
-}
-
-fn entry_reply(a: EntryAnswer) -> Reply
+fn entry_reply(a: Result<Entry, Refusal>) -> Reply
     ensures { RepliesTo (entry_answer a) result }
 {
     match a {
-        EntryAnswer::Entry(e) => entry_line(e),
-        EntryAnswer::Refused(r) => refusal_reply(r),
+        Ok(e) => Reply::Entry(e.key, e.value),
+        Err(r) => refusal_reply(r),
     }
-}
-
-// The walk of a listing that has come so far.
-fn walk_from(slot: u32, front: LastKey) -> Walk
-    ensures { walk_of result ≡ walk_from slot (last_of front) }
-{
-    let range = Range {
-        start: Bound::Unbounded,
-        end: Bound::Unbounded,
-        front,
-        back: LastKey::NotGiven,
-    };
-    Walk { slot, range }
 }
 
 // The next line of a listing that has come so far. It makes no test: that of the first line still
 // holds, since a listing writes no word of the arena.
-pub fn listed(ws: &[u32], slot: u32, front: LastKey) -> Reply
+pub fn listed(ws: &[u32], slot: u32, front: Option<u32>) -> Reply
     requires { Sound ws.now }
     ensures { Replies (Call.step atFront (walk_from slot (last_of front))) ws.now result ws.now }
 {
-    entry_reply(walking::step_front(ws, walk_from(slot, front)))
+    entry_reply(walking::step(ws, Walk::whole(slot, front), End::Front))
 }
 
 // Makes the command's call. A listing's first line is the answer to its first step.
@@ -105,12 +73,12 @@ pub fn answer(ws: &mut [u32], c: Command) -> Reply
     ensures { Replies (call_of c) ws.old result ws.new }
 {
     match c {
-        Command::New => slot_reply(new_version(ws)),
-        Command::Hold(s) => slot_reply(hold(ws, s)),
-        Command::Set(s, key, value) => slot_reply(insert(ws, s, Entry { key, value })),
-        Command::Cut(s, key) => slot_reply(remove(ws, s, key)),
+        Command::New => number_reply(new_version(ws)),
+        Command::Hold(s) => number_reply(hold(ws, s)),
+        Command::Set(s, key, value) => number_reply(insert(ws, s, Entry { key, value })),
+        Command::Cut(s, key) => number_reply(remove(ws, s, key)),
         Command::Drop(s) => done_reply(release(ws, s)),
-        Command::Get(s, key) => value_reply(get(ws, s, key)),
-        Command::List(s) => entry_reply(step_front(ws, walk_from(s, LastKey::NotGiven))),
+        Command::Get(s, key) => number_reply(get(ws, s, key)),
+        Command::List(s) => entry_reply(step_front(ws, Walk::whole(s, None))),
     }
 }

@@ -11,11 +11,10 @@ ghost use Rattle.foamcorbel.specs.Gives.{Gives};
 ghost use Rattle.passing.specs.Walks.{walk_in};
 ghost use Rattle.passing.specs.Differences.{differences_in};
 
-use answers::TruthAnswer;
 use arena::Entry;
 use passing::differences::{differences_in, pass_difference};
 use passing::walks::walk_in;
-use passing::{pass_done, pass_entry, pass_number, pass_sign, pass_slot, pass_truth, pass_value};
+use passing::{pass_done, pass_entry, pass_number, pass_sign, pass_truth};
 
 // Records N and V, makes all nodes free and no slot held. Any old contents will do.
 #[unsafe(no_mangle)]
@@ -30,7 +29,7 @@ pub extern "C" fn foamcorbel_format(ws: &mut [u32], n: u32, v: u32) -> u32
 pub extern "C" fn foamcorbel_new_version(ws: &mut [u32], out: &mut [u32; 1]) -> u32
     ensures { Gives Call.new ws.old out.old result ws.new out.new }
 {
-    pass_slot(red_black_tree_map::new_version(ws), out)
+    pass_number(red_black_tree_map::new_version(ws), out)
 }
 
 // A second slot for the version of slot s.
@@ -38,7 +37,7 @@ pub extern "C" fn foamcorbel_new_version(ws: &mut [u32], out: &mut [u32; 1]) -> 
 pub extern "C" fn foamcorbel_hold(ws: &mut [u32], s: u32, out: &mut [u32; 1]) -> u32
     ensures { Gives (Call.hold s) ws.old out.old result ws.new out.new }
 {
-    pass_slot(red_black_tree_map::hold(ws, s), out)
+    pass_number(red_black_tree_map::hold(ws, s), out)
 }
 
 // Slot s is given up.
@@ -70,7 +69,7 @@ pub extern "C" fn foamcorbel_free_nodes(ws: &[u32], out: &mut [u32; 1]) -> u32
 pub extern "C" fn foamcorbel_get(ws: &[u32], s: u32, key: u32, out: &mut [u32; 1]) -> u32
     ensures { Gives (Call.get s key) ws.now out.old result ws.now out.new }
 {
-    pass_value(red_black_tree_map::get(ws, s, key), out)
+    pass_number(red_black_tree_map::get(ws, s, key), out)
 }
 
 // The entry with the least key: its key, then its value.
@@ -100,7 +99,7 @@ pub extern "C" fn foamcorbel_insert(
 ) -> u32
     ensures { Gives (Call.insert s (record { key = key; value = value })) ws.old out.old result ws.new out.new }
 {
-    pass_slot(red_black_tree_map::insert(ws, s, Entry { key, value }), out)
+    pass_number(red_black_tree_map::insert(ws, s, Entry { key, value }), out)
 }
 
 // A slot for the version of slot s without the key.
@@ -108,7 +107,7 @@ pub extern "C" fn foamcorbel_insert(
 pub extern "C" fn foamcorbel_remove(ws: &mut [u32], s: u32, key: u32, out: &mut [u32; 1]) -> u32
     ensures { Gives (Call.remove s key) ws.old out.old result ws.new out.new }
 {
-    pass_slot(red_black_tree_map::remove(ws, s, key), out)
+    pass_number(red_black_tree_map::remove(ws, s, key), out)
 }
 
 // The order of the versions of slots s and t: -1 as 4294967295, 0 or 1.
@@ -156,7 +155,7 @@ pub extern "C" fn foamcorbel_rescale_mark(ws: &[u32], s: u32, out: &mut [u32; 1]
 pub extern "C" fn foamcorbel_sound(ws: &[u32], out: &mut [u32; 1]) -> u32
     ensures { Gives Call.soundness_test ws.now out.old result ws.now out.new }
 {
-    pass_truth(TruthAnswer::Truth(red_black_tree_map::sound(ws)), out)
+    pass_truth(Ok(red_black_tree_map::sound(ws)), out)
 }
 
 // What differs next between two versions: the kind, the key and the two values. The caller keeps

@@ -9,7 +9,6 @@ ghost use Rattle.headers.specs.declared.TheConstants.{LINE_ROOM, OUT_ROOM};
 use answering::{answer, listed};
 use arena::{MAX_NODES, MAX_SLOTS};
 use commands::{Command, parse};
-use ranges::LastKey;
 use red_black_tree_map::format;
 use replies::{LONGEST, Reply, put_reply};
 use std::io::{self, Read};
@@ -98,7 +97,7 @@ impl Session {
     {
         let mut reply = first;
         while let Reply::Entry(key, _) = reply {
-            reply = listed(&self.words, slot, LastKey::Given(key));
+            reply = listed(&self.words, slot, Some(key));
             self.answers.put(rt, reply)?;
         }
         Ok(())

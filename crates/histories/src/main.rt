@@ -3,17 +3,16 @@
 #![tactic(auto)]
 
 mod course;
-mod outcome;
 
 use self::course::{Course, LARGE, LARGE_KEYS, SMALL, SMALL_KEYS};
-use self::outcome::{done, next_entry, number, slot};
 use answers::Refusal;
 use arena::Entry;
 use red_black_tree_map::{
-    format, free_nodes, hold, insert, new_version, release, remove, size, sound,
+    format, free_nodes, hold, insert, new_version, release, remove, size, sound, step_front,
 };
 use std::fmt;
-use std::ops::Range;
+use std::ops::{self, Bound};
+use walking::Walk;
 
 // Words of the small history, and of the large one, which is on the largest arena.
 const SMALL_WORDS: usize = 400;
@@ -70,6 +69,11 @@ fn random(x: u32) -> u32 {
     b ^ (b << 5)
 }
 
+// The next entry of a walk over the whole version whose last key at the front is this one.
+fn next_entry(ws: &[u32], slot: u32, front: Option<u32>) -> Result<Entry, Refusal> {
+    step_front(ws, Walk::whole(slot, front))
+}
+
 impl<const WORDS: usize, const KEYS: usize> History<WORDS, KEYS> {
     // Makes an empty arena and takes a first version.
     fn begin(course: Course) -> Self {
@@ -81,9 +85,9 @@ impl<const WORDS: usize, const KEYS: usize> History<WORDS, KEYS> {
             seed: 2463534242,
             counts: Counts::default(),
         };
-        let formatted = done(format(&mut history.ws, course.nodes, course.slots));
+        let formatted = format(&mut history.ws, course.nodes, course.slots);
         history.expect(formatted.is_ok());
-        match slot(new_version(&mut history.ws)) {
+        match new_version(&mut history.ws) {
             Ok(q) => history.cur = q,
             Err(_) => history.expect(false),
         }
@@ -114,7 +118,7 @@ impl<const WORDS: usize, const KEYS: usize> History<WORDS, KEYS> {
 
     // Gives up the version of a slot.
     fn give_up(&mut self, slot: u32) {
-        let released = done(release(&mut self.ws, slot));
+        let released = release(&mut self.ws, slot);
         self.expect(released.is_ok());
     }
 
@@ -147,14 +151,14 @@ impl<const WORDS: usize, const KEYS: usize> History<WORDS, KEYS> {
             Some(value) => insert(&mut self.ws, self.cur, Entry { key, value }),
             None => remove(&mut self.ws, self.cur, key),
         };
-        match slot(answer) {
+        match answer {
             Ok(q) => {
                 self.put(k, value);
                 self.move_to(q);
                 self.count_change(value);
             },
             Err(r) => {
-                self.expect(matches!(r, Refusal::NoRoom));
+                self.expect(r == Refusal::NoRoom);
                 self.counts.refusals = self.counts.refusals.saturating_add(1);
             },
         }
@@ -172,7 +176,7 @@ impl<const WORDS: usize, const KEYS: usize> History<WORDS, KEYS> {
     // The current version goes on with an empty one, if there is one.
     fn start_over(&mut self) {
         self.table.fill(None);
-        match slot(new_version(&mut self.ws)) {
+        match new_version(&mut self.ws) {
             Ok(q) => self.move_to(q),
             Err(_) => self.expect(false),
         }
@@ -187,7 +191,7 @@ impl<const WORDS: usize, const KEYS: usize> History<WORDS, KEYS> {
     fn check_size(&mut self) {
         let is_sound = sound(&self.ws);
         self.expect(is_sound);
-        let answer = number(size(&self.ws, self.cur));
+        let answer = size(&self.ws, self.cur);
         let entries = self.entries();
         self.expect(answer.is_ok_and(|n| n as usize == entries));
     }
@@ -211,7 +215,7 @@ impl<const WORDS: usize, const KEYS: usize> History<WORDS, KEYS> {
     }
 
     // So many steps, from one number up to another.
-    fn run(&mut self, steps: Range<u32>) {
+    fn run(&mut self, steps: ops::Range<u32>) {
         for step in steps {
             self.step(step);
         }
@@ -220,13 +224,13 @@ impl<const WORDS: usize, const KEYS: usize> History<WORDS, KEYS> {
     // Gives up the current version, which must leave every node free.
     fn end(&mut self) {
         self.give_up(self.cur);
-        let free = number(free_nodes(&self.ws));
-        self.expect(matches!(free, Ok(n) if n == self.course.nodes));
+        let free = free_nodes(&self.ws);
+        self.expect(free == Ok(self.course.nodes));
     }
 
     // Holds the current version, goes on, and finds the held version as it was.
-    fn run_with_older(&mut self, steps: Range<u32>) {
-        match slot(hold(&mut self.ws, self.cur)) {
+    fn run_with_older(&mut self, steps: ops::Range<u32>) {
+        match hold(&mut self.ws, self.cur) {
             Ok(q) => {
                 let older = self.table;
                 self.run(steps);

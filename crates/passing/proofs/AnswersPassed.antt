@@ -1,48 +1,29 @@
--- Each accepted answer, by the value that the function found in it. A refusal passes by computing.
-use mathlib.Core.Path.{◌≡◌, refl, sym, subst}
-use mathlib.Core.Bool.{Bool}
-use mathlib.Core.List.{List}
-use Prim.Native.Nat.{ℕ}
-use lib.ListN.{set}
-use Rattle.arena.specs.declared.Entry.{Entry}
+-- Each kind of answer, by the words that the code makes of what it holds.
+use Rattle.std.proofs.Common.{◌≡◌, ℕ, List, [], ◌∷◌, length, set, refl, sym, ap, ◌∙◌, arith}
+use Rattle.std.specs.Prelude.{Result, Ok, Err, IfOk, IfErr, IsOkAnd, MatchResult}
 use Rattle.calls.specs.Call.{Answer}
-use Rattle.answers.specs.declared.NumberAnswer.{NumberAnswer}
-use Rattle.answers.specs.declared.ValueAnswer.{ValueAnswer}
-use Rattle.answers.specs.declared.EntryAnswer.{EntryAnswer}
-use Rattle.answers.specs.declared.TruthAnswer.{TruthAnswer}
-use Rattle.answers.specs.declared.SignAnswer.{SignAnswer}
-use Rattle.answers.specs.declared.Sign.{Sign}
-use Rattle.answers.specs.Answers.{sign_of, number_answer, value_answer, entry_answer, truth_answer, sign_answer}
-use Rattle.versions.specs.declared.SlotAnswer.{SlotAnswer}
-use Rattle.versions.specs.Slots.{slot_answer}
-use Rattle.passing.specs.Results.{sign_word, truth_word, status, written, PassedOn}
+use Rattle.answers.specs.declared.Refusal.{Refusal}
+use Rattle.answers.specs.Answers.{refusal_number, answer_by}
+use Rattle.passing.specs.Results.{status, written, PassedOn}
 
-module _ {out : List ℕ} where
-  -- An answer that is known passes by computing.
-  passes : {A : Type 0} (f : A → Answer) {a b : A} → a ≡ b → PassedOn (f a) out (status (f b)) (written (f b) out)
-  passes f {b = b} e = subst (λ x. PassedOn (f x) out (status (f b)) (written (f b) out)) (sym e) (record { result = refl; values = refl })
+-- The answer a is passed on where v has the words w of what it holds, and the code hands them over.
+module _ {A : Type 0} (f : A → Answer) (w : A → List ℕ) {out out' : List ℕ} {r : ℕ} (accepted : (x : A) → status (f x) ≡ 0)
+    (words : (x : A) → written (f x) out ≡ w x) where
+  pub passed : (a : Result A Refusal) (v : Result (List ℕ) Refusal) → MatchResult a (λ x. IsOkAnd v (λ ws. ws ≡ w x)) (λ e. v ≡ Err e) →
+      IfOk v (λ ws. (r ≡ 0) × (out' ≡ ws)) → IfErr v (λ e. (r ≡ refusal_number e) × (out' ≡ out)) → PassedOn (answer_by f a) out r out'
+  passed (Ok x) (Ok ws) m h g = record { result = h.0 ∙ sym (accepted x); values = h.1 ∙ m ∙ sym (words x) }
+  passed (Ok x) (Err e) m h g = absurd m
+  passed (Err e) (Ok ws) m h g = absurd (cc)
+  passed (Err e) (Err q) m h g = let z : q ≡ e = cc in record { result = g.0 ∙ ap refusal_number z; values = g.1 }
 
-  pub slot_passed : {a : SlotAnswer} {q : ℕ} → a ≡ SlotAnswer.Slot q → PassedOn (slot_answer a) out 0 (set out 0 q)
-  slot_passed e = passes slot_answer e
+-- Every word that is lent is written.
+pub one_word : (out : List ℕ) (x : ℕ) → length out ≡ 1 → set out 0 x ≡ x ∷ []
+one_word [] x e = absurd (omega arith)
+one_word (o ∷ []) x e = refl
+one_word (o ∷ (p ∷ os)) x e = absurd (omega arith)
 
-  pub number_passed : {a : NumberAnswer} {n : ℕ} → a ≡ NumberAnswer.Number n → PassedOn (number_answer a) out 0 (set out 0 n)
-  number_passed e = passes number_answer e
-
-  pub value_passed : {a : ValueAnswer} {x : ℕ} → a ≡ ValueAnswer.Value x → PassedOn (value_answer a) out 0 (set out 0 x)
-  value_passed e = passes value_answer e
-
-  pub entry_passed : {a : EntryAnswer} {e : Entry} → a ≡ EntryAnswer.Entry e →
-      PassedOn (entry_answer a) out 0 (set (set out 0 e.key) 1 e.value)
-  entry_passed e = passes entry_answer e
-
-  -- The word of a truth or a sign is what another function answers.
-  worded : {b : Answer} {w x : ℕ} → w ≡ x → PassedOn b out 0 (set out 0 x) → PassedOn b out 0 (set out 0 w)
-  worded {b} e p = subst (λ (y : ℕ). PassedOn b out 0 (set out 0 y)) (sym e) p
-
-  pub truth_passed : {a : TruthAnswer} {b : Bool} {w : ℕ} → a ≡ TruthAnswer.Truth b → w ≡ truth_word b →
-      PassedOn (truth_answer a) out 0 (set out 0 w)
-  truth_passed e h = worded h (passes truth_answer e)
-
-  pub sign_passed : {a : SignAnswer} {d : Sign} {w : ℕ} → a ≡ SignAnswer.Sign d → w ≡ sign_word (sign_of d) →
-      PassedOn (sign_answer a) out 0 (set out 0 w)
-  sign_passed e h = worded h (passes sign_answer e)
+pub two_words : (out : List ℕ) (x y : ℕ) → length out ≡ 2 → set (set out 0 x) 1 y ≡ x ∷ (y ∷ [])
+two_words [] x y e = absurd (omega arith)
+two_words (o ∷ []) x y e = absurd (omega arith)
+two_words (o ∷ (p ∷ [])) x y e = refl
+two_words (o ∷ (p ∷ (q ∷ os))) x y e = absurd (omega arith)

@@ -4,8 +4,8 @@ use mathlib.Core.List.{List}
 use Prim.Native.Nat.{ℕ}
 use lib.ListN.{get_or}
 use borrow.Author.Tests.{eq-eqb, ne_eqb}
-use Rattle.ranges.specs.declared.Bound.{Bound}
-use Rattle.ranges.specs.declared.LastKey.{LastKey}
+use Rattle.std.specs.Prelude.{Some, None}
+use Rattle.std.specs.declared.ops.Bound.{Bound}
 use Rattle.ranges.specs.Ranges.{bound_of, last_of}
 use Rattle.walking.specs.declared.Walk.{Walk}
 use Rattle.walking.specs.Walks.{walk_of}
@@ -22,10 +22,10 @@ module _ (kind key : ℕ) where
   bound_none d f = rw (ne_eqb kind 1 d) (rw (ne_eqb kind 2 f) refl)
 
 module _ (given key : ℕ) where
-  pub last_none : given ≡ 0 → last_of LastKey.NotGiven ≡ last_in given key
+  pub last_none : given ≡ 0 → last_of None ≡ last_in given key
   last_none e = rw (eq-eqb given 0 e) refl
 
-  pub last_given : (given ≡ 0 → ⊥) → last_of (LastKey.Given key) ≡ last_in given key
+  pub last_given : (given ≡ 0 → ⊥) → last_of (Some key) ≡ last_in given key
   last_given d = rw (ne_eqb given 0 d) refl
 
 pub walk_read : (words : List ℕ) (w : Walk) → w.slot ≡ get_or words 0 0 → bound_of w.range.start ≡ bound_in (get_or words 1 0) (get_or words 2 0) →

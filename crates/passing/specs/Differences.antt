@@ -1,9 +1,8 @@
 -- RULES 9.21: "A difference is four words: the kind; the key; the value in the first version; the
 -- value in the second." RULES 9.22: what the caller keeps, from four words.
-use Rattle.std.specs.Prelude.{◌≡◌, List, ℕ, get_or}
+use Rattle.std.specs.Prelude.{List, [], ◌∷◌, ℕ, get_or}
 use Rattle.trees.specs.Difference.{Difference, only_first, only_second, in_both, tag_of}
 use Rattle.calls.specs.Call as call
-use Rattle.passing.specs.declared.differences.Row.{Row}
 use Rattle.passing.specs.Walks.{last_in}
 
 -- RULES 9.21: "A kind of 1 is only in the first, 2 only in the second, 3 in both."
@@ -24,11 +23,8 @@ second_value (only_second f) = f.value
 second_value (in_both e f) = f.value
 
 -- The four words of the difference d.
-pub record RowOf (d : Difference) (r : Row) : Type 0 where
-  pub kind_is : r.kind ≡ kind_word d
-  pub key_is : r.key ≡ tag_of d
-  pub first_is : r.first ≡ first_value d
-  pub second_is : r.second ≡ second_value d
+abbrev pub row_of : Difference → List ℕ
+row_of d = kind_word d ∷ (tag_of d ∷ (first_value d ∷ (second_value d ∷ [])))
 
 -- RULES 9.22: "the first slot; the second slot; whether a key was given, and which".
 abbrev pub differences_in : List ℕ → call.Differences

@@ -5,13 +5,14 @@
 pub mod differences;
 pub mod walks;
 
-ghost use Rattle.std.specs.Prelude.{◌≡◌, []};
-ghost use Rattle.answers.specs.Answers.{sign_of, number_answer, value_answer, entry_answer, truth_answer, sign_answer};
+ghost use Rattle.std.specs.Prelude.{◌≡◌, [], ◌∷◌, IfOk, IfErr};
+ghost use Rattle.answers.specs.Answers.{refusal_number, sign_of, number_answer, value_answer, entry_answer, truth_answer, sign_answer};
 ghost use Rattle.versions.specs.Slots.{slot_answer, done_answer};
 ghost use Rattle.passing.specs.Results.{sign_word, truth_word, PassedOn};
 
-use answers::{EntryAnswer, NumberAnswer, Sign, SignAnswer, TruthAnswer, ValueAnswer, number};
-use versions::{DoneAnswer, SlotAnswer};
+use answers::Refusal;
+use arena::Entry;
+use std::cmp::Ordering;
 
 // RULES 9.18: the result of an accepted call.
 const ACCEPTED: u32 = 0;
@@ -19,101 +20,82 @@ const ACCEPTED: u32 = 0;
 // RULES 9.19: -1 in two's complement.
 const MINUS_ONE: u32 = 4294967295;
 
-pub fn pass_done(a: DoneAnswer) -> u32
+// RULES 9.18: "0 when its call is accepted, and else the refusal's number": the values go to the
+// words lent for them, which a refusal leaves.
+fn pass<const N: usize>(values: Result<[u32; N], Refusal>, out: &mut [u32; N]) -> u32
+    ensures ok { IfOk values.entry (λ words. (result ≡ 0) × (out.new ≡ words)) }
+    ensures err { IfErr values.entry (λ r. (result ≡ refusal_number r) × (out.new ≡ out.old)) }
+{
+    match values {
+        Ok(words) => {
+            *out = words;
+            ACCEPTED
+        },
+        Err(r) => u32::from(r),
+    }
+}
+
+pub fn pass_done(a: Result<(), Refusal>) -> u32
     ensures { PassedOn (done_answer a) [] result [] }
 {
     match a {
-        DoneAnswer::Done => ACCEPTED,
-        DoneAnswer::Refused(r) => number(r),
+        Ok(()) => ACCEPTED,
+        Err(r) => u32::from(r),
     }
 }
 
-pub fn pass_slot(a: SlotAnswer, out: &mut [u32; 1]) -> u32
-    ensures { PassedOn (slot_answer a) out.old result out.new }
+fn word(n: u32) -> [u32; 1]
+    ensures { result ≡ n ∷ [] }
 {
-    match a {
-        SlotAnswer::Refused(r) => number(r),
-        SlotAnswer::Slot(q) => {
-            out[0] = q;
-            ACCEPTED
-        },
-    }
+    [n]
 }
 
-pub fn pass_number(a: NumberAnswer, out: &mut [u32; 1]) -> u32
-    ensures { PassedOn (number_answer a) out.old result out.new }
+// A slot, a number of entries or of nodes, or a value: one word.
+pub fn pass_number(a: Result<u32, Refusal>, out: &mut [u32; 1]) -> u32
+    ensures slot { PassedOn (slot_answer a) out.old result out.new }
+    ensures number { PassedOn (number_answer a) out.old result out.new }
+    ensures value { PassedOn (value_answer a) out.old result out.new }
 {
-    match a {
-        NumberAnswer::Refused(r) => number(r),
-        NumberAnswer::Number(n) => {
-            out[0] = n;
-            ACCEPTED
-        },
-    }
-}
-
-pub fn pass_value(a: ValueAnswer, out: &mut [u32; 1]) -> u32
-    ensures { PassedOn (value_answer a) out.old result out.new }
-{
-    match a {
-        ValueAnswer::Refused(r) => number(r),
-        ValueAnswer::Value(x) => {
-            out[0] = x;
-            ACCEPTED
-        },
-    }
+    pass(a.map(word), out)
 }
 
 // RULES 9.19: the key, then the value.
-pub fn pass_entry(a: EntryAnswer, out: &mut [u32; 2]) -> u32
+fn entry_words(e: Entry) -> [u32; 2]
+    ensures { result ≡ e.key ∷ (e.value ∷ []) }
+{
+    [e.key, e.value]
+}
+
+pub fn pass_entry(a: Result<Entry, Refusal>, out: &mut [u32; 2]) -> u32
     ensures { PassedOn (entry_answer a) out.old result out.new }
 {
-    match a {
-        EntryAnswer::Refused(r) => number(r),
-        EntryAnswer::Entry(e) => {
-            out[0] = e.key;
-            out[1] = e.value;
-            ACCEPTED
-        },
-    }
+    pass(a.map(entry_words), out)
 }
 
-fn sign_word(d: Sign) -> u32
-    ensures { result ≡ sign_word (sign_of d) }
+fn sign_word(d: Ordering) -> [u32; 1]
+    ensures { result ≡ sign_word (sign_of d) ∷ [] }
 {
     match d {
-        Sign::Less => MINUS_ONE,
-        Sign::Same => 0,
-        Sign::More => 1,
+        Ordering::Less => [MINUS_ONE],
+        Ordering::Equal => [0],
+        Ordering::Greater => [1],
     }
 }
 
-pub fn pass_sign(a: SignAnswer, out: &mut [u32; 1]) -> u32
+pub fn pass_sign(a: Result<Ordering, Refusal>, out: &mut [u32; 1]) -> u32
     ensures { PassedOn (sign_answer a) out.old result out.new }
 {
-    match a {
-        SignAnswer::Refused(r) => number(r),
-        SignAnswer::Sign(d) => {
-            out[0] = sign_word(d);
-            ACCEPTED
-        },
-    }
+    pass(a.map(sign_word), out)
 }
 
-fn truth_word(b: bool) -> u32
-    ensures { result ≡ truth_word b }
+fn truth_word(b: bool) -> [u32; 1]
+    ensures { result ≡ truth_word b ∷ [] }
 {
-    if b { 1 } else { 0 }
+    [u32::from(b)]
 }
 
-pub fn pass_truth(a: TruthAnswer, out: &mut [u32; 1]) -> u32
+pub fn pass_truth(a: Result<bool, Refusal>, out: &mut [u32; 1]) -> u32
     ensures { PassedOn (truth_answer a) out.old result out.new }
 {
-    match a {
-        TruthAnswer::Refused(r) => number(r),
-        TruthAnswer::Truth(b) => {
-            out[0] = truth_word(b);
-            ACCEPTED
-        },
-    }
+    pass(a.map(truth_word), out)
 }

@@ -4,7 +4,8 @@ ghost use Rattle.ranges.specs.Ranges.{bound_of, last_of};
 ghost use Rattle.walking.specs.Walks.{walk_of};
 ghost use Rattle.passing.specs.Walks.{bound_in, last_in, walk_in};
 
-use ranges::{Bound, LastKey, Range};
+use ranges::Range;
+use std::ops::Bound;
 use walking::Walk;
 
 const INCLUDED: u32 = 1;
@@ -12,26 +13,21 @@ const INCLUDED: u32 = 1;
 const EXCLUDED: u32 = 2;
 
 // Every other kind is none.
-fn bound_in(kind: u32, key: u32) -> Bound
+fn bound_in(kind: u32, key: u32) -> Bound<u32>
     ensures { bound_of result ≡ bound_in kind key }
 {
-    if kind == INCLUDED {
-        return Bound::Included(key);
+    match kind {
+        INCLUDED => Bound::Included(key),
+        EXCLUDED => Bound::Excluded(key),
+        _ => Bound::Unbounded,
     }
-    if kind == EXCLUDED {
-        return Bound::Excluded(key);
-    }
-    Bound::Unbounded
 }
 
 // 0 is "not given".
-pub fn last_in(given: u32, key: u32) -> LastKey
+pub fn last_in(given: u32, key: u32) -> Option<u32>
     ensures { last_of result ≡ last_in given key }
 {
-    if given == 0 {
-        return LastKey::NotGiven;
-    }
-    LastKey::Given(key)
+    if given == 0 { None } else { Some(key) }
 }
 
 pub fn walk_in(w: &[u32; 9]) -> Walk

@@ -6,7 +6,7 @@ use super::numbers::Line;
 use arena::Entry;
 use passing::differences::{differences_in, pass_difference};
 use passing::walks::walk_in;
-use passing::{pass_done, pass_entry, pass_number, pass_sign, pass_slot, pass_truth, pass_value};
+use passing::{pass_done, pass_entry, pass_number, pass_sign, pass_truth};
 use red_black_tree_map::{
     compare, equal, first, get, hold, insert, last, new_version, release, remove, rescale_mark,
     size, step_back, step_difference, step_front,
@@ -75,15 +75,15 @@ pub fn answered(ws: &mut [u32], line: &Line, code: Code) -> bool {
     match code {
         // The list's last line makes no call.
         Code::Finish => false,
-        Code::New => says(line, 2, new_version(ws), pass_slot),
-        Code::Hold => says(line, 3, hold(ws, s), pass_slot),
+        Code::New => says(line, 2, new_version(ws), pass_number),
+        Code::Hold => says(line, 3, hold(ws, s), pass_number),
         Code::Release => says(line, 3, release(ws, s), |a, _: &mut [u32; 0]| pass_done(a)),
         Code::Size => says(line, 3, size(ws, s), pass_number),
-        Code::Get => says(line, 4, get(ws, s, k), pass_value),
+        Code::Get => says(line, 4, get(ws, s, k), pass_number),
         Code::First => says(line, 3, first(ws, s), pass_entry),
         Code::Last => says(line, 3, last(ws, s), pass_entry),
-        Code::Insert => says(line, 5, insert(ws, s, Entry { key: k, value }), pass_slot),
-        Code::Remove => says(line, 4, remove(ws, s, k), pass_slot),
+        Code::Insert => says(line, 5, insert(ws, s, Entry { key: k, value }), pass_number),
+        Code::Remove => says(line, 4, remove(ws, s, k), pass_number),
         Code::Compare => says(line, 4, compare(ws, s, k), pass_sign),
         Code::Equal => says(line, 4, equal(ws, s, k), pass_truth),
         Code::StepFront => says(line, 11, step_front(ws, w), pass_entry),

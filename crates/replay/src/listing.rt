@@ -1,27 +1,14 @@
 // Compares a version's listing, walked from the front, with the one of a line: STATUS, and then a
 // key and a value for each entry.
 use super::expected::ACCEPTED;
-use answers::{EntryAnswer, Refusal};
+use answers::Refusal;
 use arena::Entry;
-use ranges::{Bound, LastKey, Range};
 use red_black_tree_map::step_front;
 use walking::Walk;
 
 // The next entry of a walk over the whole version whose last key at the front is this one.
 fn next_entry(ws: &[u32], slot: u32, front: Option<u32>) -> Result<Entry, Refusal> {
-    let range = Range {
-        start: Bound::Unbounded,
-        end: Bound::Unbounded,
-        front: match front {
-            Some(k) => LastKey::Given(k),
-            None => LastKey::NotGiven,
-        },
-        back: LastKey::NotGiven,
-    };
-    match step_front(ws, Walk { slot, range }) {
-        EntryAnswer::Entry(e) => Ok(e),
-        EntryAnswer::Refused(r) => Err(r),
-    }
+    step_front(ws, Walk::whole(slot, front))
 }
 
 // Whether a walk from the front gives the entries of the answer in order, and then ends.
@@ -39,5 +26,5 @@ pub fn listed(ws: &[u32], slot: u32, answer: &[u32]) -> bool {
             _ => return false,
         }
     }
-    matches!(next_entry(ws, slot, front), Err(Refusal::End))
+    next_entry(ws, slot, front) == Err(Refusal::End)
 }

@@ -13,7 +13,6 @@ use arena::{MAX_NODES, MAX_SLOTS};
 use red_black_tree_map::format;
 use std::fmt;
 use std::io::Read;
-use versions::DoneAnswer;
 
 // The words of the largest arena.
 const WORDS: usize = 12354;
@@ -88,7 +87,7 @@ fn replay(text: &[u8]) -> Tally {
     let mut ws = [0u32; WORDS];
     let mut line = Line::new();
     let mut tally = Tally::default();
-    tally.expect(matches!(format(&mut ws, MAX_NODES, MAX_SLOTS), DoneAnswer::Done));
+    tally.expect(format(&mut ws, MAX_NODES, MAX_SLOTS).is_ok());
     for &byte in text {
         if byte == b'\n' {
             tally.end_line(&mut ws, &mut line);

@@ -6,11 +6,11 @@ ghost use Rattle.std.specs.Prelude.{◌≡◌};
 ghost use Rattle.trees.specs.Range.{is_bad_range};
 ghost use Rattle.words.specs.Sound.{Sound};
 ghost use Rattle.lookup.specs.Ends.{end_of};
-ghost use Rattle.ranges.specs.Ranges.{bound_of};
+ghost use Rattle.ranges.specs.Ranges.{bound_of, last_of};
 ghost use Rattle.calls.specs.Call.{Call};
 ghost use Rattle.calls.specs.Outcome.{Outcome};
 ghost use Rattle.answers.specs.Answers.{entry_answer};
-ghost use Rattle.walking.specs.Walks.{walk_of};
+ghost use Rattle.walking.specs.Walks.{walk_of, walk_from};
 
 use answers::{Refusal, enter};
 use arena::Entry;
@@ -23,6 +23,21 @@ use std::ops::Bound;
 pub struct Walk {
     pub slot: u32,
     pub range: Range,
+}
+
+impl Walk {
+    // The walk over a whole version that has given the entries up to a last key, if any.
+    pub fn whole(slot: u32, front: Option<u32>) -> Walk
+        ensures { walk_of result ≡ walk_from slot (last_of front) }
+    {
+        let range = Range {
+            start: Bound::Unbounded,
+            end: Bound::Unbounded,
+            front,
+            back: None,
+        };
+        Walk { slot, range }
+    }
 }
 
 // RULES 7.5: start above end, or equal and both excluded.

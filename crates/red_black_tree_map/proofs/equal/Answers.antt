@@ -1,8 +1,10 @@
-use Rattle.red_black_tree_map.proofs.Tests.{tested_sound, unsound_refused}
+use Rattle.std.proofs.Common.{refl}
+use Rattle.calls.specs.Call.{Answer}
+use Rattle.red_black_tree_map.proofs.Tests.{unsound_passed}
 use Rattle.red_black_tree_map.proofs.equal.Goals as goal
 
-pub returns-in_default : goal.returns-in_default
-returns-in_default c = search unsound_refused
+pub returns-in_err-tested : goal.returns-in_err-tested
+returns-in_err-tested c = unsound_passed Answer.truth refl c.in_err-tested.ensures.err c.from_residual.result c.from_residual.ensures.1
 
 pub equal-requires : goal.equal-requires
-equal-requires c = search tested_sound
+equal-requires c = c.in_ok-tested.ensures.ok.0

@@ -1,8 +1,10 @@
-use Rattle.red_black_tree_map.proofs.Tests.{tested_sound, tested_free, unsound_refused}
+use Rattle.std.proofs.Common.{refl}
+use Rattle.calls.specs.Call.{Answer}
+use Rattle.red_black_tree_map.proofs.Tests.{unsound_passed, tested_free}
 use Rattle.red_black_tree_map.proofs.new_version.Goals as goal
 
-pub returns-in_default : goal.returns-in_default
-returns-in_default c = search unsound_refused
+pub returns-in_err-free : goal.returns-in_err-free
+returns-in_err-free c = unsound_passed Answer.slot refl c.in_err-free.ensures.err c.from_residual.result c.from_residual.ensures.1
 
-pub new_version-done-requires : goal.new_version-done-requires
-new_version-done-requires c = record { sound = search tested_sound; free_is = search tested_free }
+pub new_version-requires : goal.new_version-requires
+new_version-requires c = record { sound = c.in_ok-free.ensures.ok.0; free_is = tested_free c.in_ok-free.ensures.ok }

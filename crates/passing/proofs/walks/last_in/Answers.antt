@@ -4,5 +4,5 @@ use Rattle.passing.proofs.walks.last_in.Goals as goal
 pub returns-then-given-eq0 : goal.returns-then-given-eq0
 returns-then-given-eq0 c = last_none _ _ c.if-given-eq0.true
 
-pub returns : goal.returns
-returns c = last_given _ _ c.if-given-eq0.false
+pub returns-else-given-eq0 : goal.returns-else-given-eq0
+returns-else-given-eq0 c = last_given _ _ c.if-given-eq0.false
