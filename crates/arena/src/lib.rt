@@ -14,6 +14,8 @@ pub const MAX_SLOTS: u32 = 32;
 
 pub const MAX_HEIGHT: u32 = 22;
 
+// A colour is a word in the layout (RULES 2.16), and `soundness` reads words that may be none. Its
+// enum is `plan::Color`.
 pub const RED: u32 = 0;
 
 pub const BLACK: u32 = 1;
@@ -68,6 +70,7 @@ pub struct Node {
 }
 
 // The N and the V that the arena records.
+#[tactic(auto, unfolding(words::specs::Layout::nodes))]
 pub fn nodes_of(ws: &[u32]) -> u32
     requires { 8 ≤ length ws.now }
     ensures { result ≡ nodes ws.now }
@@ -75,6 +78,7 @@ pub fn nodes_of(ws: &[u32]) -> u32
     ws[NODES_WORD]
 }
 
+#[tactic(auto, unfolding(words::specs::Layout::slots))]
 pub fn slots_of(ws: &[u32]) -> u32
     requires { 8 ≤ length ws.now }
     ensures { result ≡ slots ws.now }
@@ -83,6 +87,7 @@ pub fn slots_of(ws: &[u32]) -> u32
 }
 
 // The first free node, 0 where there is none.
+#[tactic(auto, unfolding(words::specs::Layout::head))]
 pub fn first_free(ws: &[u32]) -> u32
     requires { 8 ≤ length ws.now }
     ensures { result ≡ head ws.now }
@@ -96,18 +101,20 @@ pub fn node_at(ws: &[u32], i: u32) -> Node
     ensures { IsNode ws.now i result }
 {
     let b = NODE_WORDS * (i as usize);
-    let entry = Entry {
-        key: ws[b + KEY_WORD],
-        value: ws[b + VALUE_WORD],
-    };
     Node {
-        entry: entry,
+        entry: Entry {
+            key: ws[b + KEY_WORD],
+            value: ws[b + VALUE_WORD],
+        },
         left: ws[b + LEFT_WORD],
         right: ws[b + RIGHT_WORD],
         color: ws[b + COLOR_WORD],
     }
 }
 
+// Each word of a node has its own name in `words`: these stay three, since one that takes the word's
+// place would be a fourth line and leave the three to call it.
+#[tactic(auto, unfolding(words::specs::Layout::left))]
 pub fn left_of(ws: &[u32], i: u32) -> u32
     requires { NodeInside ws.now i }
     ensures { result ≡ left ws.now i }
@@ -115,6 +122,7 @@ pub fn left_of(ws: &[u32], i: u32) -> u32
     ws[NODE_WORDS * (i as usize) + LEFT_WORD]
 }
 
+#[tactic(auto, unfolding(words::specs::Layout::right))]
 pub fn right_of(ws: &[u32], i: u32) -> u32
     requires { NodeInside ws.now i }
     ensures { result ≡ right ws.now i }
@@ -122,6 +130,7 @@ pub fn right_of(ws: &[u32], i: u32) -> u32
     ws[NODE_WORDS * (i as usize) + RIGHT_WORD]
 }
 
+#[tactic(auto, unfolding(words::specs::Layout::count))]
 pub fn count_of(ws: &[u32], i: u32) -> u32
     requires { NodeInside ws.now i }
     ensures { result ≡ count ws.now i }
@@ -129,7 +138,8 @@ pub fn count_of(ws: &[u32], i: u32) -> u32
     ws[NODE_WORDS * (i as usize) + COUNT_WORD]
 }
 
-// The root of slot s, in an arena of n nodes.
+// The root of slot s, in an arena of n nodes. It and the size stay two lines, as a node's words do.
+#[tactic(auto, unfolding(words::specs::Layout::slot_root))]
 pub fn slot_root(ws: &[u32], n: u32, s: u32) -> u32
     requires { SlotInside n ws.now s }
     ensures { result ≡ slot_root n ws.now s }
@@ -137,6 +147,7 @@ pub fn slot_root(ws: &[u32], n: u32, s: u32) -> u32
     ws[NODE_WORDS * (n as usize) + SLOT_WORDS * (s as usize) + ROOT_WORD]
 }
 
+#[tactic(auto, unfolding(words::specs::Layout::slot_size))]
 pub fn slot_size(ws: &[u32], n: u32, s: u32) -> u32
     requires { SlotInside n ws.now s }
     ensures { result ≡ slot_size n ws.now s }
@@ -145,6 +156,7 @@ pub fn slot_size(ws: &[u32], n: u32, s: u32) -> u32
 }
 
 // A root and a size go into slot s.
+#[tactic(auto, unfolding(words::specs::Model::slotting))]
 pub fn put_slot(ws: &mut [u32], n: u32, s: u32, root: u32, size: u32)
     requires { SlotInside n ws.old s }
     ensures { ws.new ≡ slotting n ws.old s root size }

@@ -12,6 +12,7 @@ use arena::{
     VALUE_WORD, count_of, first_free, left_of, right_of,
 };
 
+#[tactic(auto, unfolding(words::specs::Model::with_count))]
 fn set_count(ws: &mut [u32], i: u32, c: u32)
     requires { NodeInside ws.old i }
     ensures { ws.new ≡ with_count ws.old i c }
@@ -20,6 +21,7 @@ fn set_count(ws: &mut [u32], i: u32, c: u32)
 }
 
 // One name more for node i. None has no count.
+#[tactic(auto, using(crate::proofs::Raised::raised_none, crate::proofs::Raised::raised_node))]
 pub fn count_up(ws: &mut [u32], i: u32)
     requires { Raisable ws.old i }
     ensures { ws.new ≡ raising ws.old i }
@@ -32,6 +34,7 @@ pub fn count_up(ws: &mut [u32], i: u32)
 }
 
 // Node i goes to the front of the free list.
+#[tactic(auto, unfolding(words::specs::Model::freeing, words::specs::Layout::head))]
 pub fn push_free(ws: &mut [u32], i: u32)
     requires { NodeInside ws.old i }
     ensures { ws.new ≡ freeing ws.old i }
