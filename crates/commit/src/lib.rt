@@ -3,6 +3,7 @@
 
 ghost use Rattle.commit.specs.Planned.{Countable, Counts, Raisable, Raises, Buildable, Builds};
 
+use arena::Node;
 use nodes::{count_up, make_node};
 use plan::planned;
 
@@ -43,8 +44,7 @@ pub fn build(ws: &mut [u32], n: u32, plan: &[u32], link: u32, h: u32) -> u32
         return link;
     }
     let d = planned(plan, link - (n + 1));
-    let mut x = d;
-    x.left = build(ws, n, plan, d.left, h - 1);
-    x.right = build(ws, n, plan, d.right, h - 1);
-    make_node(ws, x)
+    let left = build(ws, n, plan, d.left, h - 1);
+    let right = build(ws, n, plan, d.right, h - 1);
+    make_node(ws, Node { left, right, ..d })
 }

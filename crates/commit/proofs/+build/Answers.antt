@@ -11,17 +11,17 @@ planned-d-requires t c = search builds_inside
 pub overflow_sub-h : goal.overflow_sub-h
 overflow_sub-h t c = search builds_high
 
-pub build-requires : goal.build-requires
-build-requires t c = (search builds_lower, search builds_left)
+pub build-left-requires : goal.build-left-requires
+build-left-requires t c = (search builds_lower, search builds_left)
 
 pub overflow_sub-h-2 : goal.overflow_sub-h-2
 overflow_sub-h-2 t c = search builds_high
 
-pub build-requires-2 : goal.build-requires-2
-build-requires-2 t c = (search builds_lower, search builds_right)
+pub build-right-requires : goal.build-right-requires
+build-right-requires t c = (search builds_lower, search builds_right)
 
 pub make_node-requires : goal.make_node-requires
-make_node-requires t c = builds_makable c.requires c.if-link-n.false c.planned-d.ensures c.build.ensures c.build-2.ensures _ refl
+make_node-requires t c = builds_makable c.requires c.if-link-n.false c.planned-d.ensures c.build-left.ensures c.build-right.ensures _ refl
 
 pub returns : goal.returns
-returns t c = builds_here c.if-link-n.false c.planned-d.ensures c.build.ensures c.build-2.ensures refl refl refl refl c.make_node.ensures
+returns t c = builds_here c.if-link-n.false c.planned-d.ensures c.build-left.ensures c.build-right.ensures refl refl refl refl c.make_node.ensures
