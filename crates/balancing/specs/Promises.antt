@@ -3,7 +3,7 @@
 use Rattle.std.specs.Prelude.{◌≡◌, false, ◌&&◌, List, ℕ}
 use Rattle.trees.specs.Tree.{Tree, lf, rt, is_red}
 use Rattle.trees.specs.Insert.{risen}
-use Rattle.arena.specs.declared.Node.{Node}
+use Rattle.plan.specs.declared.Node.{Node}
 use Rattle.arena.specs.Nodes.{entry_of}
 use Rattle.plan.specs.Held.{Holds}
 use Rattle.plan.specs.Steps.{Grown}

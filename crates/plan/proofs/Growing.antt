@@ -3,9 +3,8 @@ use mathlib.Core.Path.{refl, ◌∙◌}
 use mathlib.Core.List.{List}
 use Prim.Native.Nat.{ℕ, ◌+◌, ◌≤◌}
 use native.Mathlib.Omega.{arith}
-use Rattle.trees.specs.Tree.{Tree}
 use Rattle.plan.specs.Held.{Some, Room}
-use Rattle.plan.specs.Steps.{Grown, Turns}
+use Rattle.plan.specs.Steps.{Grown}
 
 pub room_less : {ws plan : List ℕ} {j k : ℕ} → Room ws plan k → j ≤ k → Room ws plan j
 room_less h le = record { arena = h.arena; room = (let r = h.room in omega arith); links = (let l = h.links in omega arith) }
@@ -26,6 +25,3 @@ onward g h le = record { keeps = λ x. h.keeps (g.keeps x); grows = (let u = g.g
 
 pub some_kept : {ws a b : List ℕ} {k link : ℕ} → Grown ws a b k → Some ws a link → Some ws b link
 some_kept g s = record { tree = s.tree; held = g.keeps s.held }
-
-pub some_turned : {ws a b : List ℕ} {k link r : ℕ} {f : Tree → Tree} → Turns ws a b k link r f → Some ws a link → Some ws b r
-some_turned {f = f} T s = record { tree = f s.tree; held = T.holds s.held }

@@ -1,3 +1,4 @@
 pub mod Scratch
+pub mod Colors
 pub mod Held
 pub mod Steps

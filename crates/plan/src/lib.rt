@@ -1,16 +1,62 @@
 // The plan: a call draws up its new nodes in a lent scratch before it writes a word of the arena. Here it is read; `planning` adds to it.
 #![tactic(auto)]
 
-ghost use Rattle.std.specs.Prelude.{◌≡◌, ◌&&◌, ◌+◌, eqb};
+ghost use Rattle.std.specs.Prelude.{◌≡◌, ◌+◌};
 ghost use Rattle.plan.specs.Scratch.{PlanInside, IsPlanned};
-ghost use Rattle.plan.specs.Held.{Some, Room};
-ghost use Rattle.plan.specs.Steps.{Looks};
+ghost use Rattle.plan.specs.Held.{Some as SomeTree, Room};
+ghost use Rattle.plan.specs.Colors.{word_of, Decodes, HasColor, IsNodeOf};
+ghost use Rattle.plan.specs.Steps.{Finds, FindsColored};
 
-use arena::{Entry, Node, RED, node_at, nodes_of};
+use arena::{BLACK, Entry, RED, node_at, nodes_of};
 
-// The colour that is read where there is no node.
-pub const NO_COLOR: u32 = 2;
+// RULES 3.2: a node is "red or black".
+#[derive(Clone, Copy, PartialEq, Eq)]
+pub enum Color {
+    Red,
+    Black,
+}
 
+// A word that stands for no colour.
+#[derive(Clone, Copy)]
+pub struct NoColor;
+
+impl From<Color> for u32 {
+    ghost from_gives = { λ c r. r ≡ word_of c };
+
+    fn from(c: Color) -> u32 {
+        match c {
+            Color::Red => RED,
+            Color::Black => BLACK,
+        }
+    }
+}
+
+impl TryFrom<u32> for Color {
+    type Error = NoColor;
+
+    ghost try_from_gives = { Decodes };
+
+    fn try_from(word: u32) -> Result<Color, NoColor> {
+        match word {
+            RED => Ok(Color::Red),
+            BLACK => Ok(Color::Black),
+            _ => Err(NoColor),
+        }
+    }
+}
+
+// A node as a step reads and writes it: the words that `arena::Node` has, with a colour for its word.
+#[derive(Clone, Copy)]
+pub struct Node {
+    pub entry: Entry,
+    pub left: u32,
+    pub right: u32,
+    pub color: Color,
+}
+
+// The plan is lent as words, and not as an array of `Node` with its count: an insertion and a removal
+// lend different sizes, so that the array's N would stand in the signature of each step.
+//
 // The layout of the scratch: each number has one name here and one in the definitions.
 pub const PLAN_HEADER_WORDS: usize = 1;
 
@@ -26,54 +72,64 @@ pub const PLAN_RIGHT_WORD: usize = 4;
 
 pub const PLAN_COLOR_WORD: usize = 5;
 
-// Node j of the plan.
-pub fn planned(plan: &[u32], j: u32) -> Node
+// The words of node j of the plan.
+pub fn planned(plan: &[u32], j: u32) -> arena::Node
     requires { PlanInside plan.now (j + 1) }
     ensures { IsPlanned plan.now j result }
 {
     let b = PLAN_NODE_WORDS * (j as usize);
-    let entry = Entry {
-        key: plan[b + PLAN_KEY_WORD],
-        value: plan[b + PLAN_VALUE_WORD],
-    };
-    Node {
-        entry: entry,
+    arena::Node {
+        entry: Entry {
+            key: plan[b + PLAN_KEY_WORD],
+            value: plan[b + PLAN_VALUE_WORD],
+        },
         left: plan[b + PLAN_LEFT_WORD],
         right: plan[b + PLAN_RIGHT_WORD],
         color: plan[b + PLAN_COLOR_WORD],
     }
 }
 
-// What stands at the link; no colour and zeros where there is no node.
-pub fn look(ws: &[u32], plan: &[u32], link: u32) -> Node
-    requires room { Room ws.now plan.now 0 }
-    requires some { Some ws.now plan.now link }
-    ensures { Looks ws.now plan.now link result }
+// The node that has these words.
+fn node_of(words: arena::Node) -> Node
+    requires { HasColor words }
+    ensures { IsNodeOf words result }
 {
-    if link == 0 {
-        let entry = Entry { key: 0, value: 0 };
-        return Node {
-            entry: entry,
-            left: 0,
-            right: 0,
-            color: NO_COLOR,
-        };
-    }
-    let n = nodes_of(ws);
-    if link <= n {
-        node_at(ws, link)
-    } else {
-        planned(plan, link - (n + 1))
+    let Ok(color) = Color::try_from(words.color) else {
+        unreachable!()
+    };
+    Node {
+        entry: words.entry,
+        left: words.left,
+        right: words.right,
+        color,
     }
 }
 
-// Whether both were read as red: what the matches on pairs of colours in 000 test.
-#[tactic(auto, using(crate::proofs::Looking::first_red, crate::proofs::Looking::first_not))]
-pub fn both_red(a: Node, b: Node) -> bool
-    ensures { result ≡ (eqb a.color 0 && eqb b.color 0) }
+// The node at the link, if one is there.
+pub fn look(ws: &[u32], plan: &[u32], link: u32) -> Option<Node>
+    requires room { Room ws.now plan.now 0 }
+    requires some { SomeTree ws.now plan.now link }
+    ensures { Finds ws.now plan.now link result }
 {
-    if a.color == RED {
-        return b.color == RED;
+    if link == 0 {
+        return None;
     }
-    false
+    let n = nodes_of(ws);
+    if link <= n {
+        Some(node_of(node_at(ws, link)))
+    } else {
+        Some(node_of(planned(plan, link - (n + 1))))
+    }
+}
+
+// The node at the link, if one is there and has the colour: what the matches on `Option<Color>` in 000 test.
+pub fn colored(ws: &[u32], plan: &[u32], link: u32, color: Color) -> Option<Node>
+    requires room { Room ws.now plan.now 0 }
+    requires some { SomeTree ws.now plan.now link }
+    ensures { FindsColored ws.now plan.now link color result }
+{
+    match look(ws, plan, link) {
+        Some(x) if x.color == color => Some(x),
+        _ => None,
+    }
 }

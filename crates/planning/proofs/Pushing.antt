@@ -6,12 +6,13 @@ use Prim.Native.Nat.{ℕ, ◌+◌, ◌*◌, ◌≤◌, ◌<◌}
 use native.Mathlib.Omega.{arith}
 use lib.ListN.{length, get_or, length-set}
 use lib.Seq.{get_or-set_same, get_or-set_other}
-use Rattle.trees.specs.Tree.{Color, fresh, Tree, node}
-use Rattle.words.specs.Layout.{nodes, code}
+use Rattle.trees.specs.Tree.{fresh, Tree, node}
+use Rattle.words.specs.Layout.{nodes}
 use Rattle.words.specs.Model.{storing}
 use Rattle.words.proofs.Stores.{length_storing, storing_other, storing_here}
-use Rattle.arena.specs.declared.Node.{Node}
 use Rattle.arena.specs.Nodes.{entry_of}
+use Rattle.plan.specs.declared.Node.{Node}
+use Rattle.plan.specs.Colors.{color_of, word_of}
 use Rattle.plan.specs.Scratch.{
   plan_node_words,
   plan_key_word,
@@ -79,7 +80,7 @@ module _ (plan : List ℕ) (x : Node) (h : PlanInside plan (used plan + 1)) wher
   unfolding plan_right
   new_right = new_word 3 (omega arith)
 
-  new_color : plan_color (pushed plan x) (used plan) ≡ x.color
+  new_color : plan_color (pushed plan x) (used plan) ≡ word_of x.color
   unfolding plan_color
   new_color = new_word 4 (omega arith)
 
@@ -87,15 +88,15 @@ module _ (plan : List ℕ) (x : Node) (h : PlanInside plan (used plan + 1)) wher
     keeps : {link : ℕ} {t : Tree} → Holds ws plan link t → Holds ws (pushed plan x) link t
     keeps g = frame (let u = pushed_used in omega arith) older g
 
-    pub pushed_holds : {c : Color} {a b : Tree} → x.color ≡ code c → Holds ws plan x.left a → Holds ws plan x.right b →
-        Holds ws (pushed plan x) (nodes ws + 1 + used plan) (node fresh c a (entry_of x.entry) b)
-    pushed_holds {c} {a} {b} k ha hb =
+    pub pushed_holds : {a b : Tree} → Holds ws plan x.left a → Holds ws plan x.right b →
+        Holds ws (pushed plan x) (nodes ws + 1 + used plan) (node fresh (color_of x.color) a (entry_of x.entry) b)
+    pushed_holds {a} {b} ha hb =
         let q = pushed plan x in
         let e : spot ws (nodes ws + 1 + used plan) ≡ used plan = omega arith in
-        let new : PlanIs ws q (nodes ws + 1 + used plan) c (entry_of x.entry) = record {
+        let new : PlanIs ws q (nodes ws + 1 + used plan) (color_of x.color) (entry_of x.entry) = record {
           low = omega arith;
           high = (let u = pushed_used in omega arith);
-          color_is = ap (plan_color q) e ∙ new_color ∙ k;
+          color_is = ap (plan_color q) e ∙ new_color;
           entry_is = ap (plan_entry q) e ∙ new_entry;
         } in
         planned

@@ -2,12 +2,13 @@
 -- more.
 use Rattle.std.specs.Prelude.{List, [], ◌∷◌, ℕ, ◌+◌, ◌*◌, set}
 use Rattle.words.specs.Model.{storing}
-use Rattle.arena.specs.declared.Node.{Node}
+use Rattle.plan.specs.declared.Node.{Node}
 use Rattle.plan.specs.Scratch.{plan_node_words, plan_key_word, used}
+use Rattle.plan.specs.Colors.{word_of}
 
 -- The words of a plan's node, in their order.
 abbrev pub node_list : Node → List ℕ
-node_list x = x.entry.key ∷ (x.entry.value ∷ (x.left ∷ (x.right ∷ (x.color ∷ []))))
+node_list x = x.entry.key ∷ (x.entry.value ∷ (x.left ∷ (x.right ∷ (word_of x.color ∷ []))))
 
 -- The plan with one node more.
 unfoldable pub pushed : List ℕ → Node → List ℕ

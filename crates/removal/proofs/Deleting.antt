@@ -1,21 +1,23 @@
 -- The cases of `del`, `del_left` and `del_right` on links.
-use mathlib.Core.Path.{◌≡◌, refl, ap}
+use mathlib.Core.Path.{◌≡◌, refl, sym, ap, ◌∙◌}
 use mathlib.Core.Bool.{true, false, true≢false, false≢true, ◌&&◌}
 use mathlib.Core.List.{List}
 use Prim.Native.Nat.{ℕ, ◌+◌, ◌*◌, ◌-◌, ◌≤◌, ◌<◌}
 use native.Mathlib.Omega.{arith}
+use Rattle.std.specs.Prelude.{Option, Some, None}
+use Rattle.std.specs.Option.{is_some}
 use borrow.Author.Tests.{lt-ltb, le-ltb}
-use Rattle.trees.specs.Tree.{red, Tree, lf, rt, is_red, is_black, height}
+use Rattle.trees.specs.Tree.{Tree, lf, rt, is_red, is_black, height}
 use Rattle.trees.specs.Shape.{Rb, rb_leaf, rb_red, rb_black}
 use Rattle.trees.specs.Remove.{fuse, del, del_left, del_right}
 use Rattle.trees.proofs.RemoveLaws.{not_red_black}
-use Rattle.words.specs.Layout.{code}
-use Rattle.arena.specs.declared.Node.{Node}
-use Rattle.plan.specs.Held.{none, Some, Room}
-use Rattle.plan.specs.Steps.{Grown, Looks, Steps, itself, Turns}
+use Rattle.plan.specs.declared.Color.TheVariants.{Red, Black}
+use Rattle.plan.specs.declared.Node.{Node}
+use Rattle.plan.specs.Held.{none, Some as SomeTree, Room}
+use Rattle.plan.specs.Steps.{Grown, Finds, FindsColored, Steps, itself, Turns}
 use Rattle.plan.proofs.Holdings.{is_leaf}
-use Rattle.plan.proofs.Growing.{room_less, room_after, no_growth, onward, grow_to}
-use Rattle.plan.proofs.Looking.{looks_black, not_black, Topped, topped}
+use Rattle.plan.proofs.Growing.{room_less, no_growth, onward, grow_to}
+use Rattle.plan.proofs.Looking.{there, Topped, topped}
 use Rattle.turning.specs.Promises.{side_room}
 use Rattle.rebalancing.specs.Promises.{balance_left, balance_right, Leans}
 use Rattle.fusing.specs.Promises.{fuse_room, Twin, Joins}
@@ -46,97 +48,79 @@ leans_right h (rb_black c d) (rb_red j k e f) i = not_red_black k f
 leans_right h (rb_black c d) (rb_black e f) i = absurd (true≢false i)
 
 module _ {ws p : List ℕ} {x : Node} {h : ℕ} (D : Sides ws p x h) where
-  pub left_side : RedBlack ws p x.left h
-  left_side = record { blacks = D.blacks; shaped = D.left }
-
-  pub right_side : RedBlack ws p x.right h
-  right_side = record { blacks = D.blacks; shaped = D.right }
-
-  pub right_leans : {o : Node} {q : List ℕ} {k : ℕ} → Looks ws p x.left o → o.color ≡ 1 → Grown ws p q k → Leans ws q x.right lf
-  right_leans L e g = record {
+  pub right_leans : {o : Option Node} {q : List ℕ} {k : ℕ} → FindsColored ws p x.left Black o → true ≡ is_some o → Grown ws p q k → Leans ws q x.right lf
+  right_leans {o} L e g = record {
     some = record { tree = D.right.some.tree; held = g.keeps D.right.some.held };
-    leans = leans_left (looks_black L e D.left.some.held) D.left.shape D.right.shape;
+    leans = leans_left (there o L D.left.some.held ∙ sym e) D.left.shape D.right.shape;
   }
 
-  pub left_leans : {o : Node} {q : List ℕ} {k : ℕ} → Looks ws p x.right o → o.color ≡ 1 → Grown ws p q k → Leans ws q x.left rt
-  left_leans R e g = record {
+  pub left_leans : {o : Option Node} {q : List ℕ} {k : ℕ} → FindsColored ws p x.right Black o → true ≡ is_some o → Grown ws p q k → Leans ws q x.left rt
+  left_leans {o} R e g = record {
     some = record { tree = D.left.some.tree; held = g.keeps D.left.some.held };
-    leans = leans_right (looks_black R e D.right.some.held) D.right.shape D.left.shape;
+    leans = leans_right (there o R D.right.some.held ∙ sym e) D.right.shape D.left.shape;
   }
-
--- The room that is left beside `del` on one side, and after it.
-module _ {ws p : List ℕ} (h : ℕ) (R : Room ws p (del_room h + side_room)) where
-  pub room_side : Room ws p (del_room h)
-  room_side = room_less R (omega arith)
-
-  module _ {q : List ℕ} {i j : ℕ} {f : Tree → Tree} (T : Turns ws p q (del_room h) i j f) where
-    pub room_balance : Room ws q side_room
-    room_balance = room_after R T.grown (omega arith)
-
-    pub room_write : Room ws q 1
-    room_write = room_after R T.grown (omega arith)
 
 -- `del_left`: the left side is balanced where it was black.
-module _ {ws p q s : List ℕ} {x o : Node} {link res : ℕ} (h k : ℕ) where
-  module _ (O : Looks ws p x.left o) (T : Turns ws p q (del_room h) x.left link (del k)) where
-    pub left_black : o.color ≡ 1 → Steps ws q s side_room (record { entry = x.entry; left = link; right = x.right; color = code red }) res balance_left →
+module _ {ws p q s : List ℕ} {x : Node} {link res : ℕ} (h k : ℕ) where
+  module _ (T : Turns ws p q (del_room h) x.left link (del k)) where
+    pub left_black : {o : Option Node} → FindsColored ws p x.left Black o → true ≡ is_some o → Steps ws q s side_room (record { entry = x.entry; left = link; right = x.right; color = Red }) res balance_left →
         Steps ws p s (del_room h + side_room) x res (cut_left k)
     unfolding del_left
-    left_black e S = record {
+    left_black {o} O e S = record {
       grown = onward T.grown S.grown (omega arith);
-      holds = λ c ha hb.
-          rw (looks_black O e ha) (S.holds {c = red} refl (T.holds ha) (T.grown.keeps hb));
+      holds = λ ha hb.
+          rw (there o O ha, ← e) (S.holds (T.holds ha) (T.grown.keeps hb));
     }
 
-    pub left_other : (o.color ≡ 1 → ⊥) → Steps ws q s 1 (record { entry = x.entry; left = link; right = x.right; color = code red }) res itself →
+    pub left_other : {o : Option Node} → FindsColored ws p x.left Black o → false ≡ is_some o → Steps ws q s 1 (record { entry = x.entry; left = link; right = x.right; color = Red }) res itself →
         Steps ws p s (del_room h + side_room) x res (cut_left k)
     unfolding del_left
-    left_other ne S = record {
+    left_other {o} O e S = record {
       grown = onward T.grown S.grown (omega arith);
-      holds = λ c ha hb.
-          rw (not_black O ne ha) (S.holds {c = red} refl (T.holds ha) (T.grown.keeps hb));
+      holds = λ ha hb.
+          rw (there o O ha, ← e) (S.holds (T.holds ha) (T.grown.keeps hb));
     }
 
   -- `del_right`.
-  module _ (O : Looks ws p x.right o) (T : Turns ws p q (del_room h) x.right link (del k)) where
-    pub right_black : o.color ≡ 1 → Steps ws q s side_room (record { entry = x.entry; left = x.left; right = link; color = code red }) res balance_right →
+  module _ (T : Turns ws p q (del_room h) x.right link (del k)) where
+    pub right_black : {o : Option Node} → FindsColored ws p x.right Black o → true ≡ is_some o → Steps ws q s side_room (record { entry = x.entry; left = x.left; right = link; color = Red }) res balance_right →
         Steps ws p s (del_room h + side_room) x res (cut_right k)
     unfolding del_right
-    right_black e S = record {
+    right_black {o} O e S = record {
       grown = onward T.grown S.grown (omega arith);
-      holds = λ c ha hb.
-          rw (looks_black O e hb) (S.holds {c = red} refl (T.grown.keeps ha) (T.holds hb));
+      holds = λ ha hb.
+          rw (there o O hb, ← e) (S.holds (T.grown.keeps ha) (T.holds hb));
     }
 
-    pub right_other : (o.color ≡ 1 → ⊥) → Steps ws q s 1 (record { entry = x.entry; left = x.left; right = link; color = code red }) res itself →
+    pub right_other : {o : Option Node} → FindsColored ws p x.right Black o → false ≡ is_some o → Steps ws q s 1 (record { entry = x.entry; left = x.left; right = link; color = Red }) res itself →
         Steps ws p s (del_room h + side_room) x res (cut_right k)
     unfolding del_right
-    right_other ne S = record {
+    right_other {o} O e S = record {
       grown = onward T.grown S.grown (omega arith);
-      holds = λ c ha hb.
-          rw (not_black O ne hb) (S.holds {c = red} refl (T.grown.keeps ha) (T.holds hb));
+      holds = λ ha hb.
+          rw (there o O hb, ← e) (S.holds (T.grown.keeps ha) (T.holds hb));
     }
 
 -- `del`.
-pub del_none : {ws p : List ℕ} {link : ℕ} (h k : ℕ) → link ≡ 0 → Turns ws p p (del_room h) link 0 (del k)
+pub del_none : {ws p : List ℕ} {link : ℕ} (h k : ℕ) → Finds ws p link None → Turns ws p p (del_room h) link 0 (del k)
 unfolding del
-del_none h k e = record { grown = no_growth _; holds = λ t. rw (is_leaf e t) (none refl) }
+del_none h k F = record { grown = no_growth _; holds = λ t. rw (is_leaf F.found t) (none refl) }
 
-module _ {ws p : List ℕ} {link h : ℕ} {x : Node} (L : Looks ws p link x) (ne : link ≡ 0 → ⊥) (D : RedBlack ws p link h) where
+module _ {ws p : List ℕ} {link h : ℕ} {x : Node} (L : Finds ws p link (Some x)) (D : RedBlack ws p link h) where
   abbrev tree : Tree
   tree = D.shaped.some.tree
 
   abbrev top : Topped x tree
-  top = topped L ne D.shaped.some.held
+  top = topped L.found D.shaped.some.held
 
-  pub tall : 1 ≤ h
+  tall : 1 ≤ h
   tall = omega (arith, D.shaped.fits, ap height top.is)
 
-  abbrev left : Some ws p x.left
-  left = record { tree = lf tree; held = (L.sees D.shaped.some.held).left_is }
+  abbrev left : SomeTree ws p x.left
+  left = record { tree = lf tree; held = (L.found.sees D.shaped.some.held).left_is }
 
-  abbrev right : Some ws p x.right
-  right = record { tree = rt tree; held = (L.sees D.shaped.some.held).right_is }
+  abbrev right : SomeTree ws p x.right
+  right = record { tree = rt tree; held = (L.found.sees D.shaped.some.held).right_is }
 
   pub sides : Sides ws p x (h - 1)
   sides =
@@ -161,9 +145,6 @@ module _ {ws p : List ℕ} {link h : ℕ} {x : Node} (L : Looks ws p link x) (ne
   pub room_down : Room ws p (del_room h) → Room ws p (del_room (h - 1) + side_room)
   room_down r = let b = tall in room_less r (omega arith)
 
-  pub room_fuse : Room ws p (del_room h) → Room ws p (fuse_room ((h - 1) * 2))
-  room_fuse r = let b = tall in room_less r (omega arith)
-
   module _ {p' : List ℕ} {k res : ℕ} where
     pub del_less : k < x.entry.key → Steps ws p p' (del_room (h - 1) + side_room) x res (cut_left k) → Turns ws p p' (del_room h) link res (del k)
     unfolding del
@@ -172,8 +153,8 @@ module _ {ws p : List ℕ} {link h : ℕ} {x : Node} (L : Looks ws p link x) (ne
         record {
           grown = grow_to S.grown (omega arith);
           holds = λ t.
-              let n = topped L ne t in
-              rw (n.is, lt-ltb k x.entry.key lt) (S.holds {c = n.color} n.coded (L.sees t).left_is (L.sees t).right_is);
+              let n = topped L.found t in
+              rw (n.is, lt-ltb k x.entry.key lt) (S.holds (L.found.sees t).left_is (L.found.sees t).right_is);
         }
 
     pub del_more : x.entry.key < k → Steps ws p p' (del_room (h - 1) + side_room) x res (cut_right k) → Turns ws p p' (del_room h) link res (del k)
@@ -183,10 +164,10 @@ module _ {ws p : List ℕ} {link h : ℕ} {x : Node} (L : Looks ws p link x) (ne
         record {
           grown = grow_to S.grown (omega arith);
           holds = λ t.
-              let n = topped L ne t in
+              let n = topped L.found t in
               rw
               (n.is, le-ltb k x.entry.key (omega arith), lt-ltb x.entry.key k lt)
-              (S.holds {c = n.color} n.coded (L.sees t).left_is (L.sees t).right_is);
+              (S.holds (L.found.sees t).left_is (L.found.sees t).right_is);
         }
 
     pub del_here : x.entry.key ≤ k → k ≤ x.entry.key → Joins ws p p' (fuse_room ((h - 1) * 2)) x.left x.right res fuse →
@@ -198,6 +179,6 @@ module _ {ws p : List ℕ} {link h : ℕ} {x : Node} (L : Looks ws p link x) (ne
           grown = grow_to J.grown (omega arith);
           holds = λ t.
               rw
-              ((topped L ne t).is, le-ltb k x.entry.key le, le-ltb x.entry.key k ge)
-              (J.holds (L.sees t).left_is (L.sees t).right_is);
+              ((topped L.found t).is, le-ltb k x.entry.key le, le-ltb x.entry.key k ge)
+              (J.holds (L.found.sees t).left_is (L.found.sees t).right_is);
         }

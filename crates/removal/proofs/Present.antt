@@ -1,5 +1,5 @@
 -- `remove` for a key that is there, and that a sound arena gives what it asks.
-use mathlib.Core.Path.{◌≡◌, refl}
+use mathlib.Core.Path.{◌≡◌}
 use mathlib.Core.Bool.{true}
 use mathlib.Core.List.{List}
 use Prim.Native.Nat.{ℕ}
@@ -7,11 +7,11 @@ use native.Mathlib.Omega.{arith}
 use Rattle.trees.specs.Tree.{Tree, black, paint}
 use Rattle.trees.specs.Lookup.{has}
 use Rattle.trees.specs.Remove.{del, remove}
-use Rattle.words.specs.Layout.{nodes, slot_root, code, max_height}
+use Rattle.words.specs.Layout.{nodes, slot_root, max_height}
 use Rattle.words.specs.Reads as reads
 use Rattle.words.specs.Sound.{Sound}
 use Rattle.words.proofs.Bounds.{version_low}
-use Rattle.plan.specs.Steps.{Turns, Paints}
+use Rattle.plan.specs.Steps.{Turns}
 use Rattle.plan.proofs.Growing.{onward}
 use Rattle.plan.proofs.Sounding.{sound_holds}
 use Rattle.removal.specs.Promises.{del_room, remove_room, RedBlack, Removes}
@@ -20,11 +20,11 @@ present_is : (k : ℕ) (t : Tree) → has k t ≡ true → remove k t ≡ paint 
 unfolding remove
 present_is k t h = rw h
 
-pub removed : {ws p q s : List ℕ} {link m res : ℕ} (h k : ℕ) → Turns ws p q (del_room h) link m (del k) → Paints ws q s m res (code black) →
+pub removed : {ws p q s : List ℕ} {link m res : ℕ} (h k : ℕ) → Turns ws p q (del_room h) link m (del k) → Turns ws q s 1 m res (paint black) →
     Removes ws p s (remove_room h) link res k
 removed h k T P = record {
   grown = onward T.grown P.grown (omega arith);
-  holds = λ {t} e g. rw (present_is k t e) (P.holds black refl (T.holds g));
+  holds = λ {t} e g. rw (present_is k t e) (P.holds (T.holds g));
 }
 
 pub sound_red_black : (ws plan : List ℕ) (S : Sound ws) (s : ℕ) (h : reads.Held ws s) → RedBlack ws plan (slot_root (nodes ws) ws s) max_height

@@ -4,8 +4,8 @@ use Rattle.trees.specs.Tree.{Tree, lf, rt, en, height}
 use Rattle.trees.specs.Shape.{Rb}
 use Rattle.trees.specs.Lookup.{has}
 use Rattle.trees.specs.Remove.{del, del_left, del_right, remove}
-use Rattle.arena.specs.declared.Node.{Node}
-use Rattle.plan.specs.Held.{Holds, Some}
+use Rattle.plan.specs.declared.Node.{Node}
+use Rattle.plan.specs.Held.{Holds, Some as SomeTree}
 use Rattle.plan.specs.Steps.{Grown}
 
 -- How many nodes a step adds to the plan at most. `del` balances a side at each level above the fusing of two trees.
@@ -25,7 +25,7 @@ cut_right k t = del_right (lf t) (en t) (rt t) (del k (rt t))
 
 -- A red-black tree of height h at most and n black levels.
 pub record Shaped (ws plan : List ℕ) (link h n : ℕ) : Type 0 where
-  pub some : Some ws plan link
+  pub some : SomeTree ws plan link
   pub fits : height some.tree ≤ h
   pub shape : Rb n some.tree
 

@@ -1,5 +1,5 @@
-use Rattle.balancing.proofs.Balancing.{not_black}
+use Rattle.balancing.proofs.Balancing.{red_stays}
 use Rattle.balancing.proofs.balance.Goals as goal
 
-pub returns-else-x-eq-BLACK : goal.returns-else-x-eq-BLACK
-returns-else-x-eq-BLACK c = search not_black
+pub returns-in-Red : goal.returns-in-Red
+returns-in-Red c = search red_stays

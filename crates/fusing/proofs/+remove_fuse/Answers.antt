@@ -1,47 +1,46 @@
-use Rattle.fusing.proofs.Joining.{fuse_left_none, fuse_right_none, two, one, less_two, less_one, room_two, room_one, twin_inner, twin_right, twin_left, room_join, room_push, ends_fused, fused_same, fused_right, fused_left}
+use borrow.Author.Rules.{rules}
+use Rattle.fusing.proofs.Joining.{fuse_left_none, fuse_right_none, less_two, less_one, room_two, room_one, twin_inner, twin_right, twin_left, ends_fused, fused_same, fused_right, fused_left}
+use Rattle.fusing.proofs.+remove_fuse.Goals.{in_default-2-via-in-Black+in_default, in_default-2-via-in-Red+in_default}
 use Rattle.fusing.proofs.+remove_fuse.Goals as goal
 
-pub returns-then-l-eq0 : goal.returns-then-l-eq0
-returns-then-l-eq0 t c = search fuse_left_none
+pub returns-in_default : goal.returns-in_default
+returns-in_default t c = fuse_left_none c.args.h c.in_default.ensures c.copy.ensures
 
-pub returns-then-r-eq0 : goal.returns-then-r-eq0
-returns-then-r-eq0 t c = search fuse_right_none
-
-pub overflow_sub-h : goal.overflow_sub-h
-overflow_sub-h t c = search two
+pub returns-in_default-look : goal.returns-in_default-look
+returns-in_default-look t c = fuse_right_none c.args.h c.in_default-look.ensures c.copy-in_default-look.ensures
 
 pub remove_fuse-m-requires : goal.remove_fuse-m-requires
-remove_fuse-m-requires t c = (search less_two, (search (room_two, c.requires.twin, c.requires.room), search (twin_inner, c.requires.twin)))
+remove_fuse-m-requires t c =
+    let a = c.in-Some.ensures in
+    let b = c.in-Some-look.ensures in
+    (less_one a b c.requires.twin c.decreases, (room_one a b c.requires.twin c.requires.room, search (twin_left a b c.requires.twin, twin_right a b c.requires.twin)))
 
-pub fuse_join-requires : goal.fuse_join-requires
-fuse_join-requires t c = record {
-  room = room_join c.if-l-eq0.false c.if-r-eq0.false c.look-a.ensures c.look-b.ensures c.requires.twin c.requires.room c.remove_fuse-m.ensures;
-  ends = ends_fused c.if-l-eq0.false c.if-r-eq0.false c.look-a.ensures c.look-b.ensures c.requires.twin c.if-a-b.true c.remove_fuse-m.ensures;
-}
+pub remove_fuse-m-requires-in-Red-Black : goal.remove_fuse-m-requires-in-Red-Black
+remove_fuse-m-requires-in-Red-Black t c =
+    let a = c.in-Some.ensures in
+    let b = c.in-Some-look.ensures in
+    (less_one a b c.requires.twin c.decreases, (room_one a b c.requires.twin c.requires.room, search (twin_left a b c.requires.twin, twin_right a b c.requires.twin)))
 
-pub returns-then-a-b : goal.returns-then-a-b
-returns-then-a-b t c = search (fused_same, c.requires.twin)
+pub remove_fuse-m-requires-in_default-2 : goal.remove_fuse-m-requires-in_default-2
+remove_fuse-m-requires-in_default-2 t c =
+    let a = c.in-Some.ensures in
+    let b = c.in-Some-look.ensures in
+    (less_two a b c.requires.twin c.decreases, (room_two a b c.requires.twin c.requires.room, twin_inner a b c.requires.twin))
 
-pub overflow_sub-h-then-a-eq-BLACK : goal.overflow_sub-h-then-a-eq-BLACK
-overflow_sub-h-then-a-eq-BLACK t c = search (one, c.requires.twin)
+pub fuse_join-requires-clause-ends : goal.fuse_join-requires-clause-ends
+fuse_join-requires-clause-ends t c =
+    ends_fused c.in-Some.ensures c.in-Some-look.ensures c.requires.twin
+    (elim c.in_default-2.branch [ in_default-2-via-in-Black+in_default w ↦ search rules | in_default-2-via-in-Red+in_default w ↦ search rules ])
+    c.remove_fuse-m-in_default-2.ensures
 
-pub remove_fuse-requires : goal.remove_fuse-requires
-remove_fuse-requires t c = (search (less_one, c.requires.twin, c.decreases), (search (room_one, c.requires.twin, c.requires.room), search (twin_right, c.requires.twin)))
+pub returns-in-Black-Red : goal.returns-in-Black-Red
+returns-in-Black-Red t c = fused_right c.in-Some.ensures c.in-Some-look.ensures c.requires.twin c.in-Black-Red.is-0 c.in-Black-Red.is-1 c.remove_fuse-m.ensures c.push.ensures
 
-pub push-requires : goal.push-requires
-push-requires t c = room_push c.if-l-eq0.false c.if-r-eq0.false c.look-a.ensures c.look-b.ensures c.requires.twin c.requires.room c.remove_fuse.ensures
+pub returns-in-Red-Black : goal.returns-in-Red-Black
+returns-in-Red-Black t c = fused_left c.in-Some.ensures c.in-Some-look.ensures c.requires.twin c.in-Red-Black.is-0 c.in-Red-Black.is-1 c.remove_fuse-m-in-Red-Black.ensures c.push-in-Red-Black.ensures
 
-pub returns-then-a-eq-BLACK : goal.returns-then-a-eq-BLACK
-returns-then-a-eq-BLACK t c = fused_right c.if-l-eq0.false c.if-r-eq0.false c.look-a.ensures c.look-b.ensures c.requires.twin c.if-a-b.false c.if-a-eq-BLACK.true c.remove_fuse.ensures c.push.ensures
-
-pub overflow_sub-h-2 : goal.overflow_sub-h-2
-overflow_sub-h-2 t c = search (one, c.requires.twin)
-
-pub remove_fuse-requires-2 : goal.remove_fuse-requires-2
-remove_fuse-requires-2 t c = (search (less_one, c.requires.twin, c.decreases), (search (room_one, c.requires.twin, c.requires.room), search (twin_left, c.requires.twin)))
-
-pub push-requires-2 : goal.push-requires-2
-push-requires-2 t c = room_push c.if-l-eq0.false c.if-r-eq0.false c.look-a.ensures c.look-b.ensures c.requires.twin c.requires.room c.remove_fuse-2.ensures
-
-pub returns : goal.returns
-returns t c = fused_left c.if-l-eq0.false c.if-r-eq0.false c.look-a.ensures c.look-b.ensures c.requires.twin c.if-a-b.false c.if-a-eq-BLACK.false c.remove_fuse-2.ensures c.push-2.ensures
+pub returns-in_default-2 : goal.returns-in_default-2
+returns-in_default-2 t c =
+    fused_same c.in-Some.ensures c.in-Some-look.ensures c.requires.twin
+    (elim c.in_default-2.branch [ in_default-2-via-in-Black+in_default w ↦ search rules | in_default-2-via-in-Red+in_default w ↦ search rules ])
+    c.remove_fuse-m-in_default-2.ensures c.fuse_join.ensures

@@ -1,34 +1,37 @@
-use Rattle.plan.proofs.Growing.{some_kept, some_turned}
-use Rattle.plan.proofs.Looking.{tall, held_left, held_right}
-use Rattle.insertion.proofs.Inserting.{ins_none, news_none, less_down, room_down, room_up, ins_here, news_here, ins_left, news_left, ins_right, news_right}
+use native.Mathlib.Omega.{arith}
+use Rattle.plan.proofs.Looking.{held_left, held_right}
+use Rattle.insertion.proofs.Inserting.{ins_none, news_none, less_down, room_down, ins_here, news_here, ins_left, news_left, ins_right, news_right}
 use Rattle.insertion.proofs.+ins.Goals as goal
 
-pub returns-then-link-eq0 : goal.returns-then-link-eq0
-returns-then-link-eq0 t c = record { turns = search ins_none; news = search news_none }
-
-pub overflow_sub-h : goal.overflow_sub-h
-overflow_sub-h t c = search tall
+pub returns-in_default : goal.returns-in_default
+returns-in_default t c = record { turns = ins_none c.in_default.ensures c.args.h c.push.ensures; news = news_none c.in_default.ensures }
 
 pub ins-l-requires : goal.ins-l-requires
-ins-l-requires t c = (search less_down, (search room_down, search held_left))
-
-pub settle-requires : goal.settle-requires
-settle-requires t c = record { room = search room_up; some = search some_turned; some_right = search some_kept }
+ins-l-requires t c =
+    let x = c.in-Some.ensures in
+    let h = c.requires.held in
+    (less_down x h c.decreases, (room_down x h c.requires.room, held_left x.found h))
 
 pub returns-then-e-x : goal.returns-then-e-x
-returns-then-e-x t c = record { turns = search ins_left; news = search news_left }
-
-pub overflow_sub-h-then-x-e : goal.overflow_sub-h-then-x-e
-overflow_sub-h-then-x-e t c = search tall
+returns-then-e-x t c = record {
+  turns = ins_left c.in-Some.ensures c.args.e (omega arith) c.ins-l.ensures.news c.requires.held c.ins-l.ensures.turns c.settle.ensures;
+  news = news_left c.in-Some.ensures (omega arith) c.ins-l.ensures.news;
+}
 
 pub ins-r-requires : goal.ins-r-requires
-ins-r-requires t c = (search less_down, (search room_down, search held_right))
-
-pub settle-requires-then-x-e : goal.settle-requires-then-x-e
-settle-requires-then-x-e t c = record { room = search (room_up, c.requires.held, c.requires.room); some = search some_kept; some_right = search some_turned }
+ins-r-requires t c =
+    let x = c.in-Some.ensures in
+    let h = c.requires.held in
+    (less_down x h c.decreases, (room_down x h c.requires.room, held_right x.found h))
 
 pub returns-then-x-e : goal.returns-then-x-e
-returns-then-x-e t c = record { turns = search (ins_right, c.requires.held); news = search news_right }
+returns-then-x-e t c = record {
+  turns = ins_right c.in-Some.ensures c.args.e (omega arith) c.ins-r.ensures.news c.requires.held c.ins-r.ensures.turns c.settle-then-x-e.ensures;
+  news = news_right c.in-Some.ensures (omega arith) c.ins-r.ensures.news;
+}
 
 pub returns : goal.returns
-returns t c = record { turns = search ins_here; news = search news_here }
+returns t c = record {
+  turns = ins_here c.in-Some.ensures c.args.h (omega arith) (omega arith) c.push-2.ensures;
+  news = news_here c.in-Some.ensures (omega arith) (omega arith);
+}

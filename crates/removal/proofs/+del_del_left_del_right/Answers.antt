@@ -1,68 +1,49 @@
 use native.Mathlib.Omega.{arith}
-use Rattle.plan.proofs.Growing.{some_turned}
-use Rattle.removal.proofs.Deleting.{room_side, room_balance, room_write, left_side, right_side, right_leans, left_leans, left_black, left_other, right_black, right_other, del_none, tall, sides, twin, less_down, room_down, room_fuse, del_less, del_more, del_here}
+use Rattle.removal.proofs.Deleting.{right_leans, left_leans, left_black, left_other, right_black, right_other, del_none, sides, twin, less_down, room_down, del_less, del_more, del_here}
 use Rattle.removal.proofs.+del_del_left_del_right.Goals as goal
 
-pub del-returns-then-link-eq0 : goal.del-returns-then-link-eq0
-del-returns-then-link-eq0 t c = search del_none
-
-pub del-overflow_sub-h : goal.del-overflow_sub-h
-del-overflow_sub-h t c = search tall
+pub del-returns-in_default : goal.del-returns-in_default
+del-returns-in_default t c = del_none c.args.h c.args.k c.in_default.ensures
 
 pub del-del_left-requires : goal.del-del_left-requires
-del-del_left-requires t c = (search less_down, (search room_down, search sides))
+del-del_left-requires t c =
+    let x = c.in-Some.ensures in
+    let d = c.requires.red_black in
+    (less_down x d c.decreases, (room_down x d c.requires.room, sides x d))
 
 pub del-returns-then-k-x : goal.del-returns-then-k-x
-del-returns-then-k-x t c = search del_less
-
-pub del-overflow_sub-h-then-x-k : goal.del-overflow_sub-h-then-x-k
-del-overflow_sub-h-then-x-k t c = search tall
+del-returns-then-k-x t c = del_less c.in-Some.ensures c.requires.red_black (omega arith) c.del_left.ensures
 
 pub del-del_right-requires : goal.del-del_right-requires
-del-del_right-requires t c = (search less_down, (search room_down, search sides))
+del-del_right-requires t c =
+    let x = c.in-Some.ensures in
+    let d = c.requires.red_black in
+    (less_down x d c.decreases, (room_down x d c.requires.room, sides x d))
 
 pub del-returns-then-x-k : goal.del-returns-then-x-k
-del-returns-then-x-k t c = search del_more
+del-returns-then-x-k t c = del_more c.in-Some.ensures c.requires.red_black (omega arith) c.del_right.ensures
 
-pub del-overflow_sub-h-2 : goal.del-overflow_sub-h-2
-del-overflow_sub-h-2 t c = search tall
-
-pub del-overflow_mul-h : goal.del-overflow_mul-h
-del-overflow_mul-h t c = omega (arith, c.requires.room.links)
-
-pub del-remove_fuse-requires : goal.del-remove_fuse-requires
-del-remove_fuse-requires t c = record { room = search room_fuse; twin = search twin }
+pub del-remove_fuse-requires-clause-twin : goal.del-remove_fuse-requires-clause-twin
+del-remove_fuse-requires-clause-twin t c = twin c.in-Some.ensures c.requires.red_black
 
 pub del-returns : goal.del-returns
-del-returns t c = search del_here
+del-returns t c = del_here c.in-Some.ensures c.requires.red_black (omega arith) (omega arith) c.remove_fuse.ensures
 
-pub del_left-del-requires : goal.del_left-del-requires
-del_left-del-requires t c = (omega (arith, c.decreases), (search room_side, search left_side))
+pub del_left-remove_balance_left-requires-clause-leans : goal.del_left-remove_balance_left-requires-clause-leans
+del_left-remove_balance_left-requires-clause-leans t c = right_leans c.requires.sides c.colored.ensures c.if-was_black.ensures c.del-left.ensures.grown
 
-pub del_left-remove_balance_left-requires : goal.del_left-remove_balance_left-requires
-del_left-remove_balance_left-requires t c = record { room = search room_balance; some = search some_turned; leans = search right_leans }
-
-pub del_left-returns-then-l-eq-BLACK : goal.del_left-returns-then-l-eq-BLACK
-del_left-returns-then-l-eq-BLACK t c = search left_black
-
-pub del_left-push-requires : goal.del_left-push-requires
-del_left-push-requires t c = search room_write
+pub del_left-returns-then-was_black : goal.del_left-returns-then-was_black
+del_left-returns-then-was_black t c = left_black c.args.h c.args.k c.del-left.ensures c.colored.ensures c.if-was_black.ensures c.remove_balance_left.ensures
 
 -- Here, and not where the side is balanced, the colour of the node above counts.
 pub del_left-returns : goal.del_left-returns
-del_left-returns t c = search left_other
+del_left-returns t c = left_other c.args.h c.args.k c.del-left.ensures c.colored.ensures c.if-was_black.ensures c.push.ensures
 
-pub del_right-del-requires : goal.del_right-del-requires
-del_right-del-requires t c = (omega (arith, c.decreases), (search room_side, search right_side))
+pub del_right-remove_balance_right-requires-clause-leans : goal.del_right-remove_balance_right-requires-clause-leans
+del_right-remove_balance_right-requires-clause-leans t c = left_leans c.requires.sides c.colored.ensures c.if-was_black.ensures c.del-right.ensures.grown
 
-pub del_right-remove_balance_right-requires : goal.del_right-remove_balance_right-requires
-del_right-remove_balance_right-requires t c = record { room = search room_balance; leans = search left_leans; some = search some_turned }
-
-pub del_right-returns-then-r-eq-BLACK : goal.del_right-returns-then-r-eq-BLACK
-del_right-returns-then-r-eq-BLACK t c = search right_black
-
-pub del_right-push-requires : goal.del_right-push-requires
-del_right-push-requires t c = search room_write
+pub del_right-returns-then-was_black : goal.del_right-returns-then-was_black
+del_right-returns-then-was_black t c = right_black c.args.h c.args.k c.del-right.ensures c.colored.ensures c.if-was_black.ensures c.remove_balance_right.ensures
 
 pub del_right-returns : goal.del_right-returns
-del_right-returns t c = search right_other
+del_right-returns t c = right_other c.args.h c.args.k c.del-right.ensures c.colored.ensures c.if-was_black.ensures c.push.ensures

@@ -1,14 +1,9 @@
-use Rattle.turning.proofs.Turned.{room_second, some_second, both_reds, not_both}
+use Rattle.turning.proofs.Turned.{both_reds, not_left, not_right}
+use Rattle.turning.proofs.remove_balance.Goals.{in_default-via-in-Some+in_default, in_default-via-in_default}
 use Rattle.turning.proofs.remove_balance.Goals as goal
 
-pub paint-requires-then-both_red : goal.paint-requires-then-both_red
-paint-requires-then-both_red c = record {
-  room = room_second c.paint.ensures c.requires.room;
-  some = some_second c.paint.ensures c.requires.some_right;
-}
+pub returns-in-Some-Some : goal.returns-in-Some-Some
+returns-in-Some-Some c = search both_reds
 
-pub returns-then-both_red : goal.returns-then-both_red
-returns-then-both_red c = search both_reds
-
-pub returns : goal.returns
-returns c = search not_both
+pub returns-in_default : goal.returns-in_default
+returns-in_default c = elim c.in_default.branch [ in_default-via-in-Some+in_default w ↦ search not_right | in_default-via-in_default w ↦ search not_left ]

@@ -1,8 +1,16 @@
-use Rattle.turning.proofs.Turned.{some_painted, some_beside, room_painted, left_turn}
+use Rattle.plan.proofs.Growing.{some_kept}
+use Rattle.turning.proofs.Turned.{shown, left_turn}
 use Rattle.turning.proofs.turn_left.Goals as goal
 
-pub remove_balance-requires : goal.remove_balance-requires
-remove_balance-requires c = record { room = search room_painted; some = search some_beside; some_right = search some_painted }
+pub remove_balance-right-requires-clause-some : goal.remove_balance-right-requires-clause-some
+remove_balance-right-requires-clause-some c = some_kept c.paint-outer.ensures.grown (shown c.look.result c.look.ensures c.unwrap_or-m.ensures).right
 
 pub returns : goal.returns
-returns c = search left_turn
+returns c =
+    left_turn
+    c.requires.looks
+    (shown c.look.result c.look.ensures c.unwrap_or-m.ensures)
+    c.paint-outer.ensures
+    c.remove_balance-right.ensures
+    c.push-left.ensures
+    c.push.ensures

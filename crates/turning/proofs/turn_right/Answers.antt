@@ -1,8 +1,16 @@
-use Rattle.turning.proofs.Turned.{some_painted, some_beside, room_painted, right_turn}
+use Rattle.plan.proofs.Growing.{some_kept}
+use Rattle.turning.proofs.Turned.{shown, right_turn}
 use Rattle.turning.proofs.turn_right.Goals as goal
 
-pub remove_balance-requires : goal.remove_balance-requires
-remove_balance-requires c = record { room = search room_painted; some = search some_painted; some_right = search some_beside }
+pub remove_balance-left-requires-clause-some_right : goal.remove_balance-left-requires-clause-some_right
+remove_balance-left-requires-clause-some_right c = some_kept c.paint-outer.ensures.grown (shown c.look.result c.look.ensures c.unwrap_or-m.ensures).left
 
 pub returns : goal.returns
-returns c = search right_turn
+returns c =
+    right_turn
+    c.requires.looks
+    (shown c.look.result c.look.ensures c.unwrap_or-m.ensures)
+    c.paint-outer.ensures
+    c.remove_balance-left.ensures
+    c.push-right.ensures
+    c.push.ensures
