@@ -112,8 +112,8 @@ pub fn node_at(ws: &[u32], i: u32) -> Node
     }
 }
 
-// Each word of a node has its own name in `words`: these stay three, since one that takes the word's
-// place would be a fourth line and leave the three to call it.
+// Each word of a node has its own name in `words`: these stay three, since one that takes the
+// word's place would be a fourth line and leave the three to call it.
 #[tactic(auto, unfolding(words::specs::Layout::left))]
 pub fn left_of(ws: &[u32], i: u32) -> u32
     requires { NodeInside ws.now i }

@@ -1,4 +1,5 @@
-// The commit of a planned tree: its fresh nodes are counted, the kept nodes that it names are counted up, and the fresh ones are made bottom up.
+// The commit of a planned tree: its fresh nodes are counted, the kept nodes that it names are
+// counted up, and the fresh ones are made bottom up.
 #![tactic(auto)]
 
 ghost use Rattle.commit.specs.Planned.{Countable, Counts, Raisable, Raises, Buildable, Builds};

@@ -11,7 +11,8 @@ use plan::{Node, colored, look};
 use planning::{copy, push};
 use rebalancing::remove_balance_left;
 
-// Two nodes of one colour, and m, to which their inner children were fused: a red one comes between them, any other below.
+// Two nodes of one colour, and m, to which their inner children were fused: a red one comes between
+// them, any other below.
 fn fuse_join(ws: &[u32], plan: &mut [u32], a: Node, m: u32, b: Node) -> u32
     requires room { Room ws.now plan.old join_room }
     requires ends { Ends ws.now plan.old a m b }

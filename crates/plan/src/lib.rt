@@ -1,4 +1,5 @@
-// The plan: a call draws up its new nodes in a lent scratch before it writes a word of the arena. Here it is read; `planning` adds to it.
+// The plan: a call draws up its new nodes in a lent scratch before it writes a word of the arena.
+// Here it is read; `planning` adds to it.
 #![tactic(auto)]
 
 ghost use Rattle.std.specs.Prelude.{◌≡◌, ◌+◌};
@@ -45,7 +46,7 @@ impl TryFrom<u32> for Color {
     }
 }
 
-// A node as a step reads and writes it: the words that `arena::Node` has, with a colour for its word.
+// A node as a step reads and writes it: that of `arena` with a colour for the colour's word.
 #[derive(Clone, Copy)]
 pub struct Node {
     pub entry: Entry,
@@ -54,8 +55,8 @@ pub struct Node {
     pub color: Color,
 }
 
-// The plan is lent as words, and not as an array of `Node` with its count: an insertion and a removal
-// lend different sizes, so that the array's N would stand in the signature of each step.
+// The plan is lent as words, and not as an array of `Node` with its count: an insertion and a
+// removal lend different sizes, so that the array's N would stand in the signature of each step.
 //
 // The layout of the scratch: each number has one name here and one in the definitions.
 pub const PLAN_HEADER_WORDS: usize = 1;
@@ -122,7 +123,8 @@ pub fn look(ws: &[u32], plan: &[u32], link: u32) -> Option<Node>
     }
 }
 
-// The node at the link, if one is there and has the colour: what the matches on `Option<Color>` in 000 test.
+// The node at the link, if one is there and has the colour: what the matches on `Option<Color>` in
+// 000 test.
 pub fn colored(ws: &[u32], plan: &[u32], link: u32, color: Color) -> Option<Node>
     requires room { Room ws.now plan.now 0 }
     requires some { SomeTree ws.now plan.now link }

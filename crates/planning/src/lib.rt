@@ -1,7 +1,8 @@
 // What adds to a plan. Nodes are only added, so that what a link holds, it goes on holding.
 //
-// The arena and the plan stay two parameters of each step. As one struct that holds the `&mut`, each
-// step would ensure beside its promise that the field keeps its ghost name: a clause more, none less.
+// The arena and the plan stay two parameters of each step. As one struct that holds the `&mut`,
+// each step would ensure beside its promise that the field keeps its ghost name: a clause more, and
+// none less.
 #![tactic(auto)]
 
 ghost use Rattle.std.specs.Prelude.{◌≡◌, ◌+◌, ◌<◌};

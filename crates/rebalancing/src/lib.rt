@@ -44,7 +44,8 @@ pub fn remove_balance_left(ws: &[u32], plan: &mut [u32], x: Node) -> u32
 }
 
 // The right side is one black level short. What the left side has to be leaves no fourth arm: it is
-// black where it is not red. It mirrors `remove_balance_left`: 000 has both, RULES 6.30 and 6.31 too.
+// black where it is not red. It mirrors `remove_balance_left`: 000 and the plain definitions have
+// both.
 pub fn remove_balance_right(ws: &[u32], plan: &mut [u32], x: Node) -> u32
     requires room { Room ws.now plan.old side_room }
     requires leans { Leans ws.now plan.old x.left rt }

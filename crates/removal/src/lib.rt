@@ -36,8 +36,8 @@ fn del_left(ws: &[u32], plan: &mut [u32], x: Node, k: u32, h: u32) -> u32
     push(ws, plan, y)
 }
 
-// Removes k on the right of x, whose sides are of height h at most. It mirrors `del_left`: 000 and the
-// plain definitions have both.
+// Removes k on the right of x, whose sides are of height h at most. It mirrors `del_left`: 000 and
+// the plain definitions have both.
 #[cycle(del_del_left_del_right)]
 fn del_right(ws: &[u32], plan: &mut [u32], x: Node, k: u32, h: u32) -> u32
     requires room { Room ws.now plan.old (del_room h + side_room) }
@@ -76,7 +76,8 @@ fn del(ws: &[u32], plan: &mut [u32], link: u32, k: u32, h: u32) -> u32
     remove_fuse(ws, plan, x.left, x.right, (h - 1) * 2)
 }
 
-// `remove` of a key that is there, on the tree at the root, whose height is h at most: the root ends black.
+// `remove` of a key that is there, on the tree at the root, whose height is h at most: the root
+// ends black.
 pub fn remove(ws: &[u32], plan: &mut [u32], root: u32, k: u32, h: u32) -> u32
     requires room { Room ws.now plan.old (remove_room h) }
     requires red_black { RedBlack ws.now plan.old root h }
