@@ -20,7 +20,8 @@ use Rattle.calls.specs.Outcome.{Outcome}
 use Rattle.calls.proofs.Histories.{answer_accepts}
 use Rattle.decimal.specs.Decimal.{largest}
 use Rattle.replies.specs.declared.Reply.{Reply}
-use Rattle.answering.specs.Answering.{walk_from, refusal_reply, reply_of, Small, Replies}
+use Rattle.walking.specs.Walks.{walk_from}
+use Rattle.answering.specs.Answering.{refusal_reply, reply_of, Small, Replies}
 
 -- The first entry that a test keeps passes it.
 first_kept : (p : Entry → Bool) (xs : List Entry) (e : Entry) → first_of (keep p xs) ≡ some e → p e ≡ true

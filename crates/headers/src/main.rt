@@ -183,7 +183,8 @@ fn main(rt: HostRuntime) {
             waiting: 0,
         },
     };
-    format(&mut session.words, MAX_NODES, MAX_SLOTS);
+    // The words are those of the most nodes and slots, so the call is not refused.
+    let _ = format(&mut session.words, MAX_NODES, MAX_SLOTS);
     if session.serve(&rt, &mut rt.stdin()).is_err() {
         let _ = rt.eprintln("headers: a write failed");
     }

@@ -11,7 +11,7 @@ use red_black_tree_map::{
     format, free_nodes, hold, insert, new_version, release, remove, size, sound, step_front,
 };
 use std::fmt;
-use std::ops::{self, Bound};
+use std::ops::Range;
 use walking::Walk;
 
 // Words of the small history, and of the large one, which is on the largest arena.
@@ -113,7 +113,7 @@ impl<const WORDS: usize, const KEYS: usize> History<WORDS, KEYS> {
                 }
             }
         }
-        matches!(next_entry(&self.ws, slot, front), Err(Refusal::End))
+        next_entry(&self.ws, slot, front) == Err(Refusal::End)
     }
 
     // Gives up the version of a slot.
@@ -215,7 +215,7 @@ impl<const WORDS: usize, const KEYS: usize> History<WORDS, KEYS> {
     }
 
     // So many steps, from one number up to another.
-    fn run(&mut self, steps: ops::Range<u32>) {
+    fn run(&mut self, steps: Range<u32>) {
         for step in steps {
             self.step(step);
         }
@@ -229,7 +229,7 @@ impl<const WORDS: usize, const KEYS: usize> History<WORDS, KEYS> {
     }
 
     // Holds the current version, goes on, and finds the held version as it was.
-    fn run_with_older(&mut self, steps: ops::Range<u32>) {
+    fn run_with_older(&mut self, steps: Range<u32>) {
         match hold(&mut self.ws, self.cur) {
             Ok(q) => {
                 let older = self.table;
