@@ -1,4 +1,4 @@
--- The free number (RULES 3.10), which the calls take and give by value.
+-- The free number (RULES 3.10), which is lent to the calls that write.
 use Rattle.std.specs.Prelude.{◌≡◌, List, ℕ, ◌≤◌}
 use Rattle.words.specs.Sound.{Sound, free_number}
 
