@@ -1,72 +1,47 @@
 // The second half of the soundness test: the summary of every node in the queue, children first,
 // and the slots.
-ghost use Rattle.std.specs.Prelude.{◌*◌, ◌-◌, ◌≤◌, ◌<◌, get_or};
+// `memo` and `ends` are passed apart: lent in a struct, each contract would name their loans too.
+ghost use Rattle.std.specs.Prelude.{◌+◌, ◌*◌, ◌-◌, ◌≤◌, ◌<◌, length, get_or};
 ghost use Rattle.words.specs.Layout.{nodes, slots};
 ghost use Rattle.words.specs.Sound.{Sound};
 ghost use Rattle.soundness_laws.specs.Answer.{Answers, Decides};
-ghost use Rattle.soundness_laws.specs.Packed.{briefs, KeysApart, RightPut, BothPut, Places, Room};
+ghost use Rattle.soundness_laws.specs.Ways.{Ways};
+ghost use Rattle.soundness_laws.specs.Packed.{briefs, Least, Greatest, Room};
 ghost use Rattle.soundness_laws.specs.Known.{Settle, Settled, Barren, AllKnown};
 ghost use Rattle.soundness_laws.specs.Whole.{Whole, SlotRight, SlotsRight, SoundWith};
 
 use crate::packed::{DARK, SHAPE, put, shapes_fit, word_above, word_of};
 use arena::{NOT_HELD, RED, node_at, nodes_of, slot_root, slot_size, slots_of};
 
-// Notes node i of this word, key and least key, if its key is below the keys of the tree at x, its
-// right link. Seven parameters: with each end answered as an Option by a function of its own, the
-// test of 63 to 85 nodes took 3 to 7 % longer.
-fn settle_right(
-    memo: &mut [u32],
-    ends: &mut [u32],
-    i: u32,
-    word: u32,
-    key: u32,
-    x: u32,
-    least: u32,
-) -> bool
-    requires { Places memo.old ends.old i × Places memo.old ends.old x }
-    ensures { Answers
-        result
-        (RightPut memo.old ends.old i word key x least memo.new ends.new)
-        ((1 ≤ x → key < get_or ends.old (2 * x) 0) → ⊥) }
+// The least key of a tree with this key at its root and the tree at x to the left, if the keys
+// there are below it.
+fn least_key(ends: &[u32], x: u32, key: u32) -> Option<u32>
+    requires { 2 * x + 1 < length ends.now }
+    ensures { Ways result (Least ends.now x key) ((1 ≤ x → get_or ends.now (2 * x + 1) 0 < key) → ⊥) }
 {
     if x == 0 {
-        put(memo, ends, i, word, least, key);
-        return true;
-    }
-    let at = 2 * (x as usize);
-    if ends[at] <= key {
-        return false;
-    }
-    let greatest = ends[at + 1];
-    put(memo, ends, i, word, least, greatest);
-    true
-}
-
-// The same, if its key is above the keys of the tree at x, its left link, too. Its right link is y.
-fn settle_ends(
-    memo: &mut [u32],
-    ends: &mut [u32],
-    i: u32,
-    word: u32,
-    key: u32,
-    x: u32,
-    y: u32,
-) -> bool
-    requires { Places memo.old ends.old i × Places memo.old ends.old x × Places memo.old ends.old y }
-    ensures { Answers
-        result
-        (BothPut memo.old ends.old i word x key y memo.new ends.new)
-        (KeysApart ends.old x key y → ⊥) }
-{
-    if x == 0 {
-        return settle_right(memo, ends, i, word, key, y, key);
+        return Some(key);
     }
     let at = 2 * (x as usize);
     if key <= ends[at + 1] {
-        return false;
+        return None;
     }
-    let least = ends[at];
-    settle_right(memo, ends, i, word, key, y, least)
+    Some(ends[at])
+}
+
+// The greatest, if the keys of the tree at y, to the right, are above.
+fn greatest_key(ends: &[u32], y: u32, key: u32) -> Option<u32>
+    requires { 2 * y + 1 < length ends.now }
+    ensures { Ways result (Greatest ends.now y key) ((1 ≤ y → key < get_or ends.now (2 * y) 0) → ⊥) }
+{
+    if y == 0 {
+        return Some(key);
+    }
+    let at = 2 * (y as usize);
+    if ends[at] <= key {
+        return None;
+    }
+    Some(ends[at + 1])
 }
 
 // Notes node i, both children of which are known, if its tree can be a part of a version.
@@ -84,15 +59,14 @@ fn settle(ws: &[u32], i: u32, memo: &mut [u32], ends: &mut [u32]) -> bool
     if !shapes_fit(d.color, l, r) {
         return false;
     }
-    settle_ends(
-        memo,
-        ends,
-        i,
-        word_above(d.color, l, r),
-        e.key,
-        d.left,
-        d.right,
-    )
+    let Some(least) = least_key(ends, d.left, e.key) else {
+        return false;
+    };
+    let Some(greatest) = greatest_key(ends, d.right, e.key) else {
+        return false;
+    };
+    put(memo, ends, i, word_above(d.color, l, r), least, greatest);
+    true
 }
 
 // Notes every node of the queue, from its end on.

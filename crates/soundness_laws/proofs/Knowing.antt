@@ -3,7 +3,7 @@
 use mathlib.Core.Path.{◌≡◌, refl, ap, sym, ◌∙◌}
 use mathlib.Core.Bool.{Bool, true, false}
 use mathlib.Core.List.{List}
-use Prim.Native.Nat.{ℕ, zero, suc, ◌+◌, ◌/◌, ◌%◌, ◌^◌, ◌≤◌, ◌<◌}
+use Prim.Native.Nat.{ℕ, zero, suc, ◌+◌, ◌*◌, ◌/◌, ◌%◌, ◌^◌, ◌≤◌, ◌<◌}
 use native.Mathlib.Omega.{arith}
 use native.Mathlib.Decide.{dec_lt}
 use lib.ListN.{get_or}
@@ -17,9 +17,9 @@ use Rattle.words.proofs.Bounds.{size-nodes}
 use Rattle.soundness_laws.specs.Answer.{Answers, Decides}
 use Rattle.soundness_laws.specs.Summary.{Brief, Good, Tells, Fits, Joined}
 use Rattle.soundness_laws.specs.Within.{Within}
-use Rattle.soundness_laws.proofs.Saying.{say_no}
+use Rattle.soundness_laws.proofs.Saying.{say_yes, say_no}
 use Rattle.soundness_laws.proofs.Joining.{good_fits, joined_tells}
-use Rattle.soundness_laws.specs.Packed.{shape, dark, packed, briefs, ShapesFit, word_above, Wordable, KeysApart, BothPut, Packable, Places}
+use Rattle.soundness_laws.specs.Packed.{shape, dark, packed, briefs, ShapesFit, word_above, Wordable, KeysApart, Least, Greatest, Put, Packable, Places}
 use Rattle.soundness_laws.proofs.Packing.{put_noted}
 use Rattle.soundness_laws.specs.Known.{Known, Settle, Settled, Barren}
 
@@ -117,6 +117,13 @@ module _ (ws memo ends : List ℕ) (i : ℕ) (q : Settle ws (briefs memo ends) i
   pub settle_no : (t : Bool) → Decides t (ShapesFit c l r) → t ≡ false → Answers false (Settled ws B B i) (Barren ws i)
   settle_no t d e = say_no (record { none = no_tree (λ f. d.no e (fits_shapes f)) })
 
+  -- Keys of a child that are on the wrong side.
+  pub settle_no_left : ((1 ≤ x → get_or ends (2 * x + 1) 0 < k) → ⊥) → Answers false (Settled ws B B i) (Barren ws i)
+  settle_no_left h = say_no (record { none = no_tree (λ f. h (fits_keys f).after) })
+
+  pub settle_no_right : ((1 ≤ y → k < get_or ends (2 * y) 0) → ⊥) → Answers false (Settled ws B B i) (Barren ws i)
+  settle_no_right h = say_no (record { none = no_tree (λ f. h (fits_keys f).before) })
+
   module _ (t : Bool) (d : Decides t (ShapesFit c l r)) (e : t ≡ true) where
     S : ShapesFit c l r
     S = d.yes e
@@ -131,61 +138,53 @@ module _ (ws memo ends : List ℕ) (i : ℕ) (q : Settle ws (briefs memo ends) i
         let n = q.within.n_high in
         record { known = S.known; blacks_low = omega (arith, el, f.0); size_low = omega (arith, el, er, f.1, g.1) }
 
-    module _ (w : ℕ) (ew : w ≡ word_above c l r) (memo' ends' : List ℕ) where
-      module _ (u : BothPut memo ends i w x k y memo' ends') where
-        fitting : Fits c k a b
-        fitting = fit S (record { after = u.after; before = u.right.before })
+    module _ (w : ℕ) (ew : w ≡ word_above c l r) (least : ℕ) (m : Least ends x k least) (greatest : ℕ) (g : Greatest ends y k greatest) where
+      fitting : Fits c k a b
+      fitting = fit S (record { after = m.after; before = g.before })
 
-        abbrev s : Brief
-        s = record { blacks = l / shape + c; size = l % dark + r % dark + 1; least = u.least; greatest = u.right.greatest; color = c }
+      abbrev s : Brief
+      s = record { blacks = l / shape + c; size = l % dark + r % dark + 1; least = least; greatest = greatest; color = c }
 
-        joined : Joined c k a b s
-        unfolding briefs
-        joined =
-            let sx = some_size ws B x left_known in
-            let sy = some_size ws B y right_known in
-            record {
-              blacks_is = omega (arith, el);
-              size_is = omega (arith, el, er);
-              least = record { none = λ z. u.end.none (none x a.size sx z); some = λ p. u.end.some (some_link ws B x left_known p) };
-              greatest = record { none = λ z. u.right.end.none (none y b.size sy z); some = λ p. u.right.end.some (some_link ws B y right_known p) };
-              color_is = refl;
-            }
-          where
-            none : (j m : ℕ) → (1 ≤ j → 1 ≤ m) → m ≡ 0 → j ≡ 0
-            none zero m f z = refl
-            none (suc j) m f z = absurd (omega (arith, f (omega arith)))
-
-        whole : (t : Tree) × Reads (nodes ws) ws i t × Tells s t
-        whole =
-            let d = color_of c S.known in
-            let L = left_known in
-            let R = right_known in
-            let f' : Fits (code d.0) (entry ws i).key a b = rw (d.1, ← kis) fitting in
-            let j' : Joined (code d.0) (entry ws i).key a b s = rw (d.1, ← kis) joined in (
-              node (kept i) d.0 L.tree (entry ws i) R.tree,
-              (refl, record { low = q.low; high = q.high; color_is = sym cis ∙ sym d.1; entry_is = refl }, rw (← xis) L.holds, rw (← yis) R.holds),
-              joined_tells d.0 (entry ws i) a b L.tree R.tree L.tells R.tells (kept i) s f' j',
-            )
-
-        packable : Packable s
-        packable =
-            let K = whole in
-            let f = few_blacks ws i K.0 s q.within K.1 K.2 in
-            let n = q.within.n_high in
-            record { blacks_low = omega (arith, f.0); size_low = omega (arith, f.1); color_low = S.known }
-
-        settled : Places memo ends i → Settled ws B (briefs memo' ends') i
-        unfolding packed
-        settled p =
-            let K = whole in
-            let n = put_noted memo ends i s p packable w ew memo' ends' u.right.put in
-            record { known = record { tree = K.0; holds = K.1; tells = rw n.here K.2 }; other = n.other }
-
-      pub settle_both : Places memo ends i → (g : Bool) → Answers g (BothPut memo ends i w x k y memo' ends') (KeysApart ends x k y → ⊥) →
-          Answers g (Settled ws B (briefs memo' ends') i) (Barren ws i)
-      settle_both p g d =
+      joined : Joined c k a b s
+      unfolding briefs
+      joined =
+          let sx = some_size ws B x left_known in
+          let sy = some_size ws B y right_known in
           record {
-            yes = λ z. settled (d.yes z) p;
-            no = λ z. record { none = no_tree (λ f. d.no z (fits_keys f)) };
+            blacks_is = omega (arith, el);
+            size_is = omega (arith, el, er);
+            least = record { none = λ z. m.end.none (none x a.size sx z); some = λ p. m.end.some (some_link ws B x left_known p) };
+            greatest = record { none = λ z. g.end.none (none y b.size sy z); some = λ p. g.end.some (some_link ws B y right_known p) };
+            color_is = refl;
           }
+        where
+          none : (j m : ℕ) → (1 ≤ j → 1 ≤ m) → m ≡ 0 → j ≡ 0
+          none zero m f z = refl
+          none (suc j) m f z = absurd (omega (arith, f (omega arith)))
+
+      whole : (t : Tree) × Reads (nodes ws) ws i t × Tells s t
+      whole =
+          let d = color_of c S.known in
+          let L = left_known in
+          let R = right_known in
+          let f' : Fits (code d.0) (entry ws i).key a b = rw (d.1, ← kis) fitting in
+          let j' : Joined (code d.0) (entry ws i).key a b s = rw (d.1, ← kis) joined in (
+            node (kept i) d.0 L.tree (entry ws i) R.tree,
+            (refl, record { low = q.low; high = q.high; color_is = sym cis ∙ sym d.1; entry_is = refl }, rw (← xis) L.holds, rw (← yis) R.holds),
+            joined_tells d.0 (entry ws i) a b L.tree R.tree L.tells R.tells (kept i) s f' j',
+          )
+
+      packable : Packable s
+      packable =
+          let K = whole in
+          let f = few_blacks ws i K.0 s q.within K.1 K.2 in
+          let n = q.within.n_high in
+          record { blacks_low = omega (arith, f.0); size_low = omega (arith, f.1); color_low = S.known }
+
+      pub settle_both : Places memo ends i → (memo' ends' : List ℕ) → Put memo ends i w least greatest memo' ends' →
+          Answers true (Settled ws B (briefs memo' ends') i) (Barren ws i)
+      unfolding packed
+      settle_both p memo' ends' u =
+          let K = whole in
+          let n = put_noted memo ends i s p packable w ew memo' ends' u in
+          say_yes (record { known = record { tree = K.0; holds = K.1; tells = rw n.here K.2 }; other = n.other })

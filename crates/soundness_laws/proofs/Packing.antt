@@ -1,16 +1,13 @@
 -- A summary that was packed is read back, and the others stay.
 use mathlib.Core.Path.{◌≡◌, refl, ◌∙◌}
-use mathlib.Core.Bool.{Bool, true}
 use mathlib.Core.List.{List}
-use Prim.Native.Nat.{ℕ, ◌+◌, ◌*◌, ◌/◌, ◌%◌, ◌≤◌, ◌<◌}
+use Prim.Native.Nat.{ℕ, ◌+◌, ◌*◌, ◌/◌, ◌%◌, ◌≤◌}
 use native.Mathlib.Omega.{arith}
 use lib.ListN.{length, get_or, set, length-set}
 use lib.Seq.{get_or-set_same, get_or-set_other}
 use Rattle.words.specs.Layout.{nodes}
 use Rattle.soundness_laws.specs.Summary.{Brief, empty_brief}
-use Rattle.soundness_laws.specs.Answer.{Answers}
-use Rattle.soundness_laws.proofs.Saying.{say_yes}
-use Rattle.soundness_laws.specs.Packed.{shape, dark, packed, briefs, Packable, Places, Room, KeysApart, Put, RightPut, BothPut}
+use Rattle.soundness_laws.specs.Packed.{shape, dark, packed, briefs, Packable, Places, Room, Put}
 use Rattle.soundness_laws.specs.Known.{Noted}
 
 pub places : (ws memo ends : List ℕ) (x : ℕ) → Room ws memo ends → x ≤ nodes ws → Places memo ends x
@@ -91,39 +88,3 @@ empty_noted memo ends p memo' ends' u =
     memo'
     ends'
     u
-
--- The two keys, one after the other.
-module _ (memo ends : List ℕ) (i w k y a : ℕ) where
-  abbrev Before : Type 0
-  Before = 1 ≤ y → k < get_or ends (2 * y) 0
-
-  module _ (f : y ≡ 0 → ⊥) where
-    pub right_some : k < get_or ends (2 * y) 0 → (memo' ends' : List ℕ) → Put memo ends i w a (get_or ends (2 * y + 1) 0) memo' ends' →
-        Answers true (RightPut memo ends i w k y a memo' ends') (Before → ⊥)
-    right_some l memo' ends' u =
-        say_yes (record {
-          before = λ _. l;
-          greatest = get_or ends (2 * y + 1) 0;
-          end = record { none = λ e. absurd (f e); some = λ _. refl };
-          put = u;
-        })
-
-module _ (memo ends : List ℕ) (i w x k y : ℕ) where
-  abbrev Both : List ℕ → List ℕ → Bool → Type 0
-  Both memo' ends' r = Answers r (BothPut memo ends i w x k y memo' ends') (KeysApart ends x k y → ⊥)
-
-  abbrev Right : ℕ → List ℕ → List ℕ → Bool → Type 0
-  Right a memo' ends' r = Answers r (RightPut memo ends i w k y a memo' ends') ((1 ≤ y → k < get_or ends (2 * y) 0) → ⊥)
-
-  module _ (f : x ≡ 0 → ⊥) where
-    pub left_some : get_or ends (2 * x + 1) 0 < k → (memo' ends' : List ℕ) (r : Bool) → Right (get_or ends (2 * x) 0) memo' ends' r → Both memo' ends' r
-    left_some l memo' ends' r d =
-        record {
-          yes = λ t. record {
-            after = λ _. l;
-            least = get_or ends (2 * x) 0;
-            end = record { none = λ e. absurd (f e); some = λ _. refl };
-            right = d.yes t;
-          };
-          no = λ t K. d.no t K.before;
-        }

@@ -54,24 +54,20 @@ pub record KeysApart (ends : List ℕ) (x k y : ℕ) : Type 0 where
   pub after : 1 ≤ x → get_or ends (2 * x + 1) 0 < k
   pub before : 1 ≤ y → k < get_or ends (2 * y) 0
 
+-- The keys of the tree at x, to the left of the key k, are below k, and a is the least of all; and
+-- those of the tree at y, to its right, are above, and a is the greatest.
+pub record Least (ends : List ℕ) (x k a : ℕ) : Type 0 where
+  pub after : 1 ≤ x → get_or ends (2 * x + 1) 0 < k
+  pub end : Outermost x (get_or ends (2 * x) 0) k a
+
+pub record Greatest (ends : List ℕ) (y k a : ℕ) : Type 0 where
+  pub before : 1 ≤ y → k < get_or ends (2 * y) 0
+  pub end : Outermost y (get_or ends (2 * y + 1) 0) k a
+
 -- The word w and the keys a and b are stored for the link i.
 pub record Put (memo ends : List ℕ) (i w a b : ℕ) (memo' ends' : List ℕ) : Type 0 where
   pub memo_is : memo' ≡ set memo i w
   pub ends_is : ends' ≡ set (set ends (2 * i) a) (2 * i + 1) b
-
--- The same, where b is the greatest key of a node of key k with the right link y.
-pub record RightPut (memo ends : List ℕ) (i w k y a : ℕ) (memo' ends' : List ℕ) : Type 0 where
-  pub before : 1 ≤ y → k < get_or ends (2 * y) 0
-  pub greatest : ℕ
-  pub end : Outermost y (get_or ends (2 * y + 1) 0) k greatest
-  pub put : Put memo ends i w a greatest memo' ends'
-
--- And a is the least, with the left link x.
-pub record BothPut (memo ends : List ℕ) (i w x k y : ℕ) (memo' ends' : List ℕ) : Type 0 where
-  pub after : 1 ≤ x → get_or ends (2 * x + 1) 0 < k
-  pub least : ℕ
-  pub end : Outermost x (get_or ends (2 * x) 0) k least
-  pub right : RightPut memo ends i w k y least memo' ends'
 
 -- The link i has its places.
 pub record Places (memo ends : List ℕ) (i : ℕ) : Type 0 where
