@@ -31,7 +31,7 @@ fn turn(ws: &[u32], side: &mut Side, last: Option<u32>)
         return;
     }
     let top = side.depth;
-    side.stack[top] = i;
+    side.stack[top as usize] = i;
     side.link = d.left;
     side.depth = top + 1;
 }
