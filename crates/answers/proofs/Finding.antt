@@ -17,8 +17,7 @@ use Rattle.calls.specs.Call as call
 use Rattle.calls.specs.Version.{VersionIs}
 use Rattle.calls.specs.Outcome.{Outcome}
 use Rattle.calls.proofs.Versions.{version_of}
-use Rattle.std.specs.Prelude.{Result, Ok, Err, IsErrAnd, ok_or, Some, None}
-use Rattle.std.proofs.lemmas.Result.{err_from_is_err_and}
+use Rattle.std.specs.Prelude.{Result, Ok, ok_or, Some, None}
 use Rattle.arena.specs.Nodes.{entry_of}
 use Rattle.answers.specs.Answers.{refusal_of, answer_by}
 use Rattle.answers.specs.declared.Refusal.{Refusal}
@@ -52,9 +51,3 @@ module _ (r : Refusal) (t : trees.Entry → call.Answer) where
   pub entry_or : (f : Option Entry) → answer_by (λ e. t (entry_of e)) (ok_or f r) ≡ or_refused (refusal_of r) t (found_of f)
   entry_or (Some e) = refl
   entry_or None = refl
-
-  -- A refusal that is passed on.
-  pub absence_passed : {A : Type 0} (f : Option Entry) (b : A → call.Answer) {q : Refusal} → ok_or f r ≡ Err q → (y : Result A Refusal) →
-      IsErrAnd y (λ e. e ≡ q) → answer_by b y ≡ or_refused (refusal_of r) t (found_of f)
-  absence_passed (Some e) b h y p = absurd (cc)
-  absence_passed None b {q} h y p = let w = err_from_is_err_and y p in let z : r ≡ q = cc in rw (w.1, w.2, ← z)

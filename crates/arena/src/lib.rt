@@ -20,7 +20,8 @@ pub const RED: u32 = 0;
 
 pub const BLACK: u32 = 1;
 
-// RULES 2.17: the root word of a slot that is not held.
+// RULES 2.17: the root word of a slot that is not held. It stays a number, as links do: it is a
+// word of the layout. `answers::enter` makes a Result of it.
 pub const NOT_HELD: u32 = 4294967295;
 
 // The layout, RULES 2.8 to 2.14: each number has one name here and one in the definitions of

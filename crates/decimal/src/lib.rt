@@ -22,8 +22,8 @@ fn with_digit(value: u32, digit: u32) -> Option<u32>
 }
 
 // The number whose digits go on at the place, after those that made the value, and the place after
-// it. A 0 takes no digit after it (RULES 9.5). It calls itself, as its definition does: a loop would
-// count the same places, and would need an invariant besides.
+// it. A 0 takes no digit after it (RULES 9.5). It calls itself, as its definition does: a loop
+// would count the same places, and would need an invariant besides.
 #[tactic(auto, using(crate::proofs::Finding::later_digits))]
 fn number_from(line: &[u8], at: usize, value: u32) -> Option<(u32, usize)>
     ensures { Finds line.now result (number_from value (drop at line.now)) }

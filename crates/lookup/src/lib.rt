@@ -99,7 +99,7 @@ fn entry_at(ws: &[u32], i: u32, h: u32, end: End) -> Option<Entry>
     nearer.or(Some(d.entry))
 }
 
-// The entry with the least key.
+// The entry with the least key. `first` and `last` are 000's names, each with its definition.
 pub fn first(ws: &[u32], i: u32) -> Option<Entry>
     requires { Rooted ws.now i max_height }
     ensures { Finds ws.now i result firstIn }

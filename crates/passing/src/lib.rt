@@ -14,6 +14,8 @@ use answers::Refusal;
 use arena::Entry;
 use std::cmp::Ordering;
 
+// What crosses to C are numbers, by RULES 9.18 to 9.22, in this file and in the two below it.
+//
 // RULES 9.18: the result of an accepted call.
 const ACCEPTED: u32 = 0;
 

@@ -24,6 +24,7 @@ pub struct Range {
     pub back: Option<u32>,
 }
 
+// It mirrors `to_end`: RULES 7.2 and the definitions have both, with the comparison turned round.
 fn from_start(b: Bound<u32>, key: u32) -> bool
     ensures { result ≡ from_start (bound_of b) key }
 {

@@ -1,5 +1,9 @@
 // The calls that only read one version, on a sound arena: RULES 4.5 to 4.9, 4.15.
-// `red_black_tree_map` tests the arena first.
+// `red_black_tree_map` tests the arena first. `first` and `last` are calls of RULES 4, each with
+// its definition. That the arena is sound stays a `requires` of each call, here and in the crates
+// beside this one: `Sound` is a record of the trees, from which the laws take them, and a ghost
+// field may state a fact alone. ABSENT is answered where `let .. else` takes a lookup apart: RULES
+// 13.10.
 #![tactic(auto)]
 
 ghost use Rattle.words.specs.Sound.{Sound};
@@ -26,26 +30,34 @@ pub fn get(ws: &[u32], s: u32, key: u32) -> Result<u32, Refusal>
     ensures { Outcome (Call.get s key) ws.now (value_answer result) ws.now }
 {
     let i = enter(ws, s)?;
-    let e = lookup::get(ws, i, key).ok_or(Refusal::Absent)?;
+    let Some(e) = lookup::get(ws, i, key) else {
+        return Err(Refusal::Absent);
+    };
     Ok(e.value)
 }
 
-#[tactic(auto, using(answers::proofs::Entries::rooted, crate::proofs::Answering::first_told))]
+#[tactic(auto, using(answers::proofs::Entries::rooted, crate::proofs::Answering::first_entry, crate::proofs::Answering::first_absent))]
 pub fn first(ws: &[u32], s: u32) -> Result<Entry, Refusal>
     requires { Sound ws.now }
     ensures { Outcome (Call.first s) ws.now (entry_answer result) ws.now }
 {
     let i = enter(ws, s)?;
-    lookup::first(ws, i).ok_or(Refusal::Absent)
+    let Some(e) = lookup::first(ws, i) else {
+        return Err(Refusal::Absent);
+    };
+    Ok(e)
 }
 
-#[tactic(auto, using(answers::proofs::Entries::rooted, crate::proofs::Answering::last_told))]
+#[tactic(auto, using(answers::proofs::Entries::rooted, crate::proofs::Answering::last_entry, crate::proofs::Answering::last_absent))]
 pub fn last(ws: &[u32], s: u32) -> Result<Entry, Refusal>
     requires { Sound ws.now }
     ensures { Outcome (Call.last s) ws.now (entry_answer result) ws.now }
 {
     let i = enter(ws, s)?;
-    lookup::last(ws, i).ok_or(Refusal::Absent)
+    let Some(e) = lookup::last(ws, i) else {
+        return Err(Refusal::Absent);
+    };
+    Ok(e)
 }
 
 // RULES 8.4: yes exactly when the version holds (0028,1053).

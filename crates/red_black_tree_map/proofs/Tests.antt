@@ -41,7 +41,7 @@ sound_told v says b e = rw e (sound_if v says)
 
 module _ {ws : List ℕ} where
   -- Every call but format and the test itself begins with it.
-  unsound_refused : {c : Call} → first_test (tests c) ≡ math.some calls.Refusal.unsound → (Sound ws → ⊥) → Outcome c ws (Answer.refused calls.Refusal.unsound) ws
+  pub unsound_refused : {c : Call} → first_test (tests c) ≡ math.some calls.Refusal.unsound → (Sound ws → ⊥) → Outcome c ws (Answer.refused calls.Refusal.unsound) ws
   unsound_refused {c} h not_sound = go (tests c) refl h
     where
       go : (rs : List calls.Refusal) → tests c ≡ rs → first_test rs ≡ math.some calls.Refusal.unsound → Outcome c ws (Answer.refused calls.Refusal.unsound) ws

@@ -1,5 +1,6 @@
 // The public calls, RULES 4: any words, slots, keys and ranges may come in. Each call tests the
-// arena and then does what the table says.
+// arena and then does what the table says. Both ends have calls of their own, `first` and `last`,
+// `step_front` and `step_back`: by 000's names, and as the C functions have them.
 #![tactic(auto)]
 
 ghost use Rattle.std.specs.Prelude.{◌≡◌, IfOk, IfErr};

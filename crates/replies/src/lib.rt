@@ -8,7 +8,8 @@ ghost use Rattle.replies.specs.Text.{reply, longest};
 
 use decimal::{put_number, put_text};
 
-// An answer that takes one line. A refusal is its number here, since that is all that the line says.
+// An answer that takes one line. A refusal is its number here, since that is all that the line
+// says.
 #[derive(Clone, Copy)]
 pub enum Reply {
     Number(u32),

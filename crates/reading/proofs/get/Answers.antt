@@ -10,8 +10,8 @@ returns-in_err-i c = version_passed Answer.value c.requires refl (named-first c.
 pub get-requires : goal.get-requires
 get-requires c = rooted c.requires c.enter.ensures c.in_ok-i.was
 
-pub returns-in_err-e : goal.returns-in_err-e
-returns-in_err-e c = get_absent c.requires c.enter.ensures c.in_ok-i.was c.get.ensures c.ok_or.ensures.value c.in_err-e.was c.from_residual-in_err-e.result c.from_residual-in_err-e.ensures.1
+pub returns-in_default : goal.returns-in_default
+returns-in_default c = get_absent c.requires c.enter.ensures c.in_ok-i.was c.get.ensures c.in_default.is
 
 pub returns : goal.returns
-returns c = get_value c.requires c.enter.ensures c.in_ok-i.was c.get.ensures c.ok_or.ensures.ok_part c.in_ok-e.was
+returns c = get_value c.requires c.enter.ensures c.in_ok-i.was c.get.ensures c.in-Some.is
