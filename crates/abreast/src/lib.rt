@@ -1,6 +1,7 @@
 // Two versions walked side by side. A side is a link, whose tree comes next, and a stack of node
 // numbers, top last: each node's entry and then its right part are still to come. Where both sides
-// stand at one link both list alike, and the link is passed over.
+// stand at one link both list alike, and the link is passed over. What a side stands for is said of
+// the words, which are lent to each step (RULES 13.8), and so is no invariant of the side.
 #![tactic(auto)]
 
 ghost use Rattle.std.specs.Prelude.{◌≡◌};
@@ -15,7 +16,7 @@ use arena::{Entry, MAX_HEIGHT, node_at, right_of};
 pub const STACK: usize = MAX_HEIGHT as usize + 1;
 
 // A side: its link, how many numbers its stack has, and the stack. It is lent and never copied, as
-// a stack is 23 words.
+// a stack is 23 words. There is no heap, so the depth stands beside.
 // As a u32 the depth stays in a register: a walk was 20 to 40 % faster than with a usize.
 #[derive(Drop)]
 pub struct Side {

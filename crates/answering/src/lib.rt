@@ -30,6 +30,9 @@ fn refusal_reply(r: Refusal) -> Reply
     }
 }
 
+// The reply to each kind of answer. One function for all three, with what makes the reply as its
+// argument, could not say which answer of the rules it replies to.
+//
 // The number of a slot, or a value.
 fn number_reply(a: Result<u32, Refusal>) -> Reply
     ensures slot { RepliesTo (slot_answer a) result }

@@ -61,7 +61,8 @@ pub struct Entry {
     pub value: u32,
 }
 
-// A node's words but its count. A link is 0 for none; a colour is 0 for red, 1 for black.
+// A node's words but its count. A link is 0 for none, for which RULES 13.2 sets one number aside; a
+// colour is 0 for red, 1 for black.
 #[derive(Clone, Copy)]
 pub struct Node {
     pub entry: Entry,
@@ -70,6 +71,9 @@ pub struct Node {
     pub color: u32,
 }
 
+// The arena is a plain slice to each call (RULES 13.8), so each says which node or slot it asks for,
+// and each of these readers has the definition of its own word.
+//
 // The N and the V that the arena records.
 #[tactic(auto, unfolding(words::specs::Layout::nodes))]
 pub fn nodes_of(ws: &[u32]) -> u32

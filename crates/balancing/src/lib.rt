@@ -31,7 +31,8 @@ fn rise(ws: &[u32], plan: &mut [u32], x: Node, y: Node, z: Node) -> u32
 }
 
 // RULES 6.21, 6.22: the third and the fourth case, at a black node to which the first two do not
-// apply. They mirror those, but RULES 6.19 to 6.22 and the plain `balance` state each by itself.
+// apply. They mirror those and stay beside them: with the side as an argument each field that is
+// read or set would be a call, since a struct update cannot choose its field.
 fn balance_right(ws: &[u32], plan: &mut [u32], x: Node) -> u32
     requires room { Room ws.now plan.old balance_room }
     requires color_value { x.color ≡ Black }

@@ -38,9 +38,9 @@ fn fields<const N: usize>(line: &[u8]) -> Option<[u32; N]>
 {
     let mut numbers = [0u32; N];
     let mut at = 0;
-    for k in 0..N {
+    for number in &mut numbers {
         let (n, next) = field(line, at)?;
-        numbers[k] = n;
+        *number = n;
         at = next;
     }
     if at < line.len() {

@@ -109,6 +109,7 @@ pub filling_end : {ws : List ℕ} {o : Option ℕ} {i : ℕ} {s : Side} → Fill
 unfolding ahead
 filling_end {ws} F e =
     record {
+      at_end = e;
       stands = F.descends.stands;
       ahead_is = rw (e, listed_none max_height ws) (sym (F.keeps ∙ rw (e, listed_none max_height ws)));
     }

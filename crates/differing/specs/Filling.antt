@@ -27,5 +27,6 @@ pub record Turns (ws : List ℕ) (o : Option ℕ) (s t : Side) : Type 0 where
 
 -- The side has ahead what of the link i is above the last key.
 pub record Fills (ws : List ℕ) (o : Option ℕ) (i : ℕ) (s : Side) : Type 0 where
+  pub at_end : s.link ≡ 0
   pub stands : Stands ws s
   pub ahead_is : ahead ws s ≡ rest o (listed max_height ws i)

@@ -18,7 +18,8 @@ fn above(last: Option<u32>, key: u32) -> bool
 }
 
 // A round of the descent: a node above the last key goes on the stack, and what is nearer to that
-// key lies to its left; any other node is passed, with all to its left.
+// key lies to its left; any other node is passed, with all to its left. `sink` would read the node
+// once more.
 fn turn(ws: &[u32], side: &mut Side, last: Option<u32>)
     requires descends { Descends ws.now side.old }
     requires fact { side.old.link ≡ 0 → ⊥ }

@@ -26,7 +26,8 @@ const OUT_ROOM: usize = 65536;
 // The most bytes of one read.
 const IN_ROOM: usize = 65536;
 
-// The line that is read, as far as it is kept.
+// The line that is read, as far as it is kept. Its buffer is fixed, and so is that of the answers:
+// the program has no heap.
 #[derive(Drop)]
 struct Line {
     bytes: [u8; LINE_ROOM],

@@ -69,7 +69,8 @@ fn random(x: u32) -> u32 {
     b ^ (b << 5)
 }
 
-// The next entry of a walk over the whole version whose last key at the front is this one.
+// The next entry of a walk over the whole version whose last key at the front is this one. Two
+// programs have this one line, and no crate between them.
 fn next_entry(ws: &[u32], slot: u32, front: Option<u32>) -> Result<Entry, Refusal> {
     step_front(ws, Walk::whole(slot, front))
 }

@@ -1,5 +1,6 @@
 // Module 3 (RULES 6.4, 13.9): lookups over node numbers, the remaining height falling. "`get`: a
-// loop; `first`, `last`: recursive descents".
+// loop; `first`, `last`: recursive descents". The words are a plain slice to each (RULES 13.8), so
+// each asks for a link that is rooted in them.
 #![tactic(auto)]
 
 ghost use Rattle.std.specs.Prelude.{◌≡◌, ltb, if◌then◌else◌};

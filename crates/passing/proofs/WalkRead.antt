@@ -5,21 +5,10 @@ use Prim.Native.Nat.{ℕ}
 use lib.ListN.{get_or}
 use borrow.Author.Tests.{eq-eqb, ne_eqb}
 use Rattle.std.specs.Prelude.{Some, None}
-use Rattle.std.specs.declared.ops.Bound.{Bound}
 use Rattle.ranges.specs.Ranges.{bound_of, last_of}
 use Rattle.walking.specs.declared.Walk.{Walk}
 use Rattle.walking.specs.Walks.{walk_of}
 use Rattle.passing.specs.Walks.{bound_in, last_in, walk_in}
-
-module _ (kind key : ℕ) where
-  pub bound_included : kind ≡ 1 → bound_of (Bound.Included key) ≡ bound_in kind key
-  bound_included e = rw (eq-eqb kind 1 e) refl
-
-  pub bound_excluded : (kind ≡ 1 → ⊥) → kind ≡ 2 → bound_of (Bound.Excluded key) ≡ bound_in kind key
-  bound_excluded d e = rw (ne_eqb kind 1 d) (rw (eq-eqb kind 2 e) refl)
-
-  pub bound_none : (kind ≡ 1 → ⊥) → (kind ≡ 2 → ⊥) → bound_of Bound.Unbounded ≡ bound_in kind key
-  bound_none d f = rw (ne_eqb kind 1 d) (rw (ne_eqb kind 2 f) refl)
 
 module _ (given key : ℕ) where
   pub last_none : given ≡ 0 → last_of None ≡ last_in given key

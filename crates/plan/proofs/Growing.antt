@@ -9,11 +9,6 @@ use Rattle.plan.specs.Steps.{Grown}
 pub room_less : {ws plan : List ℕ} {j k : ℕ} → Room ws plan k → j ≤ k → Room ws plan j
 room_less h le = record { arena = h.arena; room = (let r = h.room in omega arith); links = (let l = h.links in omega arith) }
 
-pub room_after : {ws plan plan' : List ℕ} {i j k : ℕ} → Room ws plan k → Grown ws plan plan' i → i + j ≤ k → Room ws plan' j
-room_after h g le =
-    let u = g.grows in
-    record { arena = h.arena; room = (let r = h.room in let s = g.same in omega arith); links = (let l = h.links in omega arith) }
-
 pub no_growth : {ws plan : List ℕ} (k : ℕ) → Grown ws plan plan k
 no_growth k = record { keeps = λ h. h; grows = omega arith; same = refl }
 

@@ -55,8 +55,8 @@ pub struct Node {
     pub color: Color,
 }
 
-// The plan is lent as words, and not as an array of `Node` with its count: an insertion and a
-// removal lend different sizes, so that the array's N would stand in the signature of each step.
+// The plan is lent as words, and not as a slice of `Node` with its count: `PlanInside`, `used` and
+// what `planned` promises are about words. What asks for room in it is as `planning` says.
 //
 // The layout of the scratch: each number has one name here and one in the definitions.
 pub const PLAN_HEADER_WORDS: usize = 1;
@@ -90,7 +90,7 @@ pub fn planned(plan: &[u32], j: u32) -> arena::Node
     }
 }
 
-// The node that has these words.
+// The node that has these words. It is no `From`, since it asks that the colour's word is one.
 fn node_of(words: arena::Node) -> Node
     requires { HasColor words }
     ensures { IsNodeOf words result }

@@ -40,9 +40,6 @@ module _ {ws : List ℕ} {i : ℕ} {f : Option Entry} (end : End) (w : range.Ran
         says = λ n t q. e ∙ ap (within (admits (opposite end) w)) (g.says n t q) ∙ step_within end w t;
       }
 
-  pub step_none : f ≡ None → Finds ws i None (step (end_of end) w)
-  step_none h = stepped None (rw h)
-
   module _ {e : Entry} {b : Bool} {other : End} (is : f ≡ Some e) (o : other ≡ opposite end) (tested : b ≡ admits other w e.key) where
     pub step_yes : b ≡ true → Finds ws i (Some e) (step (end_of end) w)
     step_yes y = stepped (Some e) (rw (is, ← o, sym tested ∙ y))

@@ -44,8 +44,7 @@ pub fn remove_balance_left(ws: &[u32], plan: &mut [u32], x: Node) -> u32
 }
 
 // The right side is one black level short. What the left side has to be leaves no fourth arm: it is
-// black where it is not red. It mirrors `remove_balance_left`: 000 and the plain definitions have
-// both.
+// black where it is not red. It mirrors `remove_balance_left`, and RULES 6.7 name both.
 pub fn remove_balance_right(ws: &[u32], plan: &mut [u32], x: Node) -> u32
     requires room { Room ws.now plan.old side_room }
     requires leans { Leans ws.now plan.old x.left rt }

@@ -6,7 +6,8 @@ use arena::Entry;
 use red_black_tree_map::step_front;
 use walking::Walk;
 
-// The next entry of a walk over the whole version whose last key at the front is this one.
+// The next entry of a walk over the whole version whose last key at the front is this one. Two
+// programs have this one line, and no crate between them.
 fn next_entry(ws: &[u32], slot: u32, front: Option<u32>) -> Result<Entry, Refusal> {
     step_front(ws, Walk::whole(slot, front))
 }

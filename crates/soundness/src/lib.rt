@@ -18,7 +18,7 @@ use limits::within_limits;
 use reaching::live_nodes;
 
 // How many links each size of scratch has room for, 0 for none and the nodes of an arena; and how
-// many words the two keys of each take.
+// many words the two keys of each take, since no const argument is computed. There is no heap.
 const SMALL: usize = 64;
 
 const SMALL_ENDS: usize = 2 * SMALL;

@@ -1,5 +1,6 @@
 // The scratch of the test: for each link a word, `blacks` * SHAPE + `color` * DARK + `size`, and
 // the keys at the two ends of its tree. `blacks` is one more than the black nodes on each way down.
+// The three stay in one word: `word_above` defines it, and the same word counts the names before.
 ghost use Rattle.std.specs.Prelude.{◌≡◌, ◌<◌, length, get_or};
 ghost use Rattle.soundness_laws.specs.Answer.{Decides};
 ghost use Rattle.soundness_laws.specs.Packed.{ShapesFit, Wordable, word_above, Places, Put};

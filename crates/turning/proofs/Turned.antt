@@ -50,7 +50,8 @@ module _ {ws p : List ℕ} {x : Node} {o u : Option Node} (L : FindsColored ws p
         let B : FindsColored ws p x.right Red None = rw e at R in
         record { grown = S.grown; holds = λ {a} ha hb. rw (B.found.lacks hb, false_after (is_red a)) (S.holds ha hb) }
 
--- What stands at the link has the entry and the sides of m, those of no node (RULES 6.33) where none stands there.
+-- What stands at the link has the entry and the sides of m, those of no node (RULES 6.33) where none
+-- stands there.
 pub record Shows (ws plan : List ℕ) (link : ℕ) (m : Node) : Type 0 where
   pub entry_is : {t : Tree} → Holds ws plan link t → en t ≡ entry_of m.entry
   pub left_is : {t : Tree} → Holds ws plan link t → Holds ws plan m.left (lf t)

@@ -80,7 +80,8 @@ pub fn turn_left(ws: &[u32], plan: &mut [u32], x: Node, r: Node) -> u32
 }
 
 // RULES 6.31, the third case: l is the red left child of x, and its black right child rises. It
-// mirrors `turn_left`, and stays beside it, since the plain definitions and 000 state both.
+// mirrors `turn_left` and stays beside it, as `balancing` says of its halves: `turned_left` and
+// `turned_right` are definitions apart.
 pub fn turn_right(ws: &[u32], plan: &mut [u32], x: Node, l: Node) -> u32
     requires room { Room ws.now plan.old side_room }
     requires looks { Looks ws.now plan.old x.left l }

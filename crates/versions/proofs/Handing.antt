@@ -73,13 +73,6 @@ module _ {ws : List ℕ} {p : Parent} (k : Parents ws p) where
       let S = k.sound in
       subst (λ (i : ℕ). (i ≡ 0) ⊎ Live (nodes ws) ws i) (sym k.of.root_is) (version_root S (version_of S k.slot k.of.held))
 
-  module _ {n : ℕ} {w : List ℕ} (e : n ≡ nodes ws) (r : w ≡ raising ws p.root) where
-    pub share_inside : SlotInside n w p.out
-    share_inside = rw r (omega (arith, raised.long, k.sound.trees.limits.long_is, k.of.lowest.below))
-
-    pub share_is : {w' : List ℕ} → w' ≡ slotting n w p.out p.root p.size → w' ≡ slotting (nodes ws) (raising ws p.root) p.out p.root p.size
-    share_is {w'} z = z ∙ rw (e, r)
-
   -- Sharing takes no node and frees none.
   pub share_free : {w : List ℕ} {f : ℕ} → FreeIs ws f → w ≡ slotting (nodes ws) (raising ws p.root) p.out p.root p.size → FreeIs w f
   share_free {w} F z =

@@ -1,5 +1,6 @@
 // The versions, RULES 4.34 to 4.36: new, hold and release, on a sound arena, and the tests of the
-// calls that hand out a slot. Each keeps the free number beside the words.
+// calls that hand out a slot. Each keeps the free number beside the words, which are a plain slice
+// to each call (RULES 13.8): so each asks for a sound arena and its free number.
 #![tactic(auto)]
 
 ghost use Rattle.std.specs.Prelude.{◌≡◌};
