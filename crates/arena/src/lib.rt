@@ -71,8 +71,8 @@ pub struct Node {
     pub color: u32,
 }
 
-// The arena is a plain slice to each call (RULES 13.8), so each says which node or slot it asks for,
-// and each of these readers has the definition of its own word.
+// The arena is a plain slice to each call (RULES 13.8), so each says which node or slot it asks
+// for, and each of these readers has the definition of its own word.
 //
 // The N and the V that the arena records.
 #[tactic(auto, unfolding(words::specs::Layout::nodes))]

@@ -36,8 +36,8 @@ fn del_left(ws: &[u32], plan: &mut [u32], x: Node, k: u32, h: u32) -> u32
     push(ws, plan, y)
 }
 
-// Removes k on the right of x, whose sides are of height h at most. It mirrors `del_left`, and RULES
-// 13.12 name both.
+// Removes k on the right of x, whose sides are of height h at most. It mirrors `del_left`, and
+// RULES 13.12 name both.
 #[cycle(del_del_left_del_right)]
 fn del_right(ws: &[u32], plan: &mut [u32], x: Node, k: u32, h: u32) -> u32
     requires room { Room ws.now plan.old (del_room h + side_room) }
