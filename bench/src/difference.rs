@@ -1,5 +1,6 @@
 //! A difference, and the difference step of a revision: its public call and the function below the
 //! test, where the revision has them.
+use crate::options::Options;
 use std::ffi::c_void;
 use std::mem::transmute;
 use std::ptr::NonNull;
@@ -13,7 +14,7 @@ type Place = NonNull<c_void>;
 /// The words and how many they are, places of what the caller keeps and for the difference.
 type StepDifference = unsafe extern "C" fn(*const u32, usize, *const u32, *mut u32) -> u32;
 /// `differing::next_difference`: a place for the answer, the words and how many they are, the two
-/// roots, the case and the key of the last key.
+/// roots, the number of the case of the last key and that key.
 type NextDifference = unsafe extern "C" fn(*mut Answered, *const u32, usize, u32, u32, u8, u32);
 
 /// The kind, the key, the value in the first version, the value in the second.
@@ -45,7 +46,8 @@ struct Parted {
     other: [u32; 2],
 }
 
-/// `answers::DifferenceAnswer`: its first byte is 0 where there is a difference.
+/// `Result<Difference, Refusal>`, and `answers::DifferenceAnswer` before it: the first byte is 0
+/// where there is a difference.
 #[repr(C)]
 #[derive(Default)]
 struct Answered {
@@ -57,7 +59,7 @@ struct Answered {
 impl Answered {
     fn read(&self) -> Stepped {
         if self.refused != 0 {
-            // `answers::Refusal` counts from 0, the numbers of the refusals from 1.
+            // The cases of `answers::Refusal` count from 0, the numbers of the refusals from 1.
             return Err(u32::from(self.refusal) + 1);
         }
         let Parted { case, one: [key, value], other: [_, second] } = self.parted;
@@ -74,17 +76,19 @@ impl Answered {
 pub struct DifferenceStep {
     call: Option<StepDifference>,
     below: Option<NextDifference>,
+    options: Options,
 }
 
 impl DifferenceStep {
     /// # Safety
     /// At the places stand the C function and `differing::next_difference`.
-    pub unsafe fn at(call: Option<Place>, below: Option<Place>) -> DifferenceStep {
+    pub unsafe fn at(call: Option<Place>, below: Option<Place>, options: Options) -> DifferenceStep {
         // SAFETY: the caller's.
         unsafe {
             DifferenceStep {
                 call: call.map(|place| transmute::<Place, StepDifference>(place)),
                 below: below.map(|place| transmute::<Place, NextDifference>(place)),
+                options,
             }
         }
     }
@@ -116,7 +120,7 @@ impl DifferenceStep {
     ) -> Option<()> {
         let (next, mut answered) = (self.below?, Answered::default());
         for last in lasts {
-            let (case, key) = (u8::from(last.is_none()), last.unwrap_or_default());
+            let (case, key) = (self.options.number(last.is_some()), last.unwrap_or_default());
             // SAFETY: the place is as large as the kit's own; the rest is the caller's.
             unsafe { next(&mut answered, words.as_ptr(), words.len(), roots.0, roots.1, case, key) };
             see(answered.read());

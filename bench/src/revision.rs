@@ -1,7 +1,9 @@
 //! A build of the library: the one that is linked, or that of a revision in shared objects, so that
 //! two can be called in one process.
 use crate::difference::{self, DifferenceStep};
-use library::call::{Answer, Bound, Call, END, End, Walk};
+use crate::options::Options;
+use crate::ranges::Range;
+use library::call::{Answer, Call, END, End};
 use library::functions::{Functions, LINKED};
 use library::lent::Lent;
 use std::ffi::{CString, c_char, c_int, c_void};
@@ -22,42 +24,47 @@ const RTLD_NOW: c_int = 2;
 type Get = unsafe extern "C" fn(*mut Found, *const u32, usize, u32, u32);
 /// `comparing::compare_roots`: the words and how many they are, the two roots.
 type Compare = unsafe extern "C" fn(*const u32, usize, u32, u32) -> u8;
-/// `ranges::step_front` and `step_back`: a place for the answer, the words and how many they are,
-/// the root, the place of the range.
-type Step = unsafe extern "C" fn(*mut Found, *const u32, usize, u32, *const Range);
+/// `ranges::step`: a place for the answer, the words and how many they are, the root, the place of
+/// the range, the end.
+type StepTowards = unsafe extern "C" fn(*mut Found, *const u32, usize, u32, *const Range, u8);
+/// `ranges::step_front` and `step_back`, which revisions had before it.
+type StepAtOneEnd = unsafe extern "C" fn(*mut Found, *const u32, usize, u32, *const Range);
 
-/// `lookup::Found`: its first byte is 0 where there is an entry.
+/// `Option<Entry>`, and `lookup::Found` before it.
 #[repr(C)]
 #[derive(Default)]
 struct Found {
-    nothing: u8,
+    number: u8,
     key: u32,
     value: u32,
 }
 
-/// A case of an enum and the key in it: `ranges::Bound` and `ranges::LastKey`.
-#[repr(C)]
-#[derive(Clone, Copy)]
-pub struct Case {
-    pub number: u8,
-    pub key: u32,
+impl Found {
+    fn entry(&self, options: Options) -> Option<(u32, u32)> {
+        (self.number == options.number(true)).then_some((self.key, self.value))
+    }
 }
 
-/// `ranges::Range`: what a walk keeps besides its slot.
-#[repr(C)]
+/// A step at one end.
 #[derive(Clone, Copy)]
-pub struct Range {
-    start: Case,
-    end: Case,
-    front: Case,
-    back: Case,
+enum Step {
+    /// `lookup::End` is front, back, from 0.
+    Towards(StepTowards, u8),
+    AtOneEnd(StepAtOneEnd),
 }
 
-impl Range {
-    pub fn of(walk: &Walk) -> Range {
-        let bound = |Bound { kind, key }| Case { number: [2, 0, 1][if kind < 3 { kind as usize } else { 0 }], key };
-        let last = |(given, key): (u32, u32)| Case { number: u8::from(given == 0), key };
-        Range { start: bound(walk.start), end: bound(walk.end), front: last(walk.front), back: last(walk.back) }
+impl Step {
+    /// # Safety
+    /// The words are a sound arena, and the root is a held slot's.
+    unsafe fn call(self, found: &mut Found, words: &[u32], root: u32, range: &Range) {
+        let (words, len) = (words.as_ptr(), words.len());
+        // SAFETY: both places are as large as the kit's own; the rest is the caller's.
+        unsafe {
+            match self {
+                Step::Towards(step, end) => step(found, words, len, root, range, end),
+                Step::AtOneEnd(step) => step(found, words, len, root, range),
+            }
+        }
     }
 }
 
@@ -71,11 +78,37 @@ struct Inner {
     step_back: Option<Step>,
 }
 
+impl Inner {
+    /// # Safety
+    /// `inner` gives the places of the functions whose names the objects bear.
+    unsafe fn of(inner: impl Fn(&str) -> Option<NonNull<c_void>>) -> Inner {
+        // SAFETY: the caller's.
+        let towards = |place| unsafe { transmute::<NonNull<c_void>, StepTowards>(place) };
+        // SAFETY: the caller's.
+        let at_one_end = |place| Step::AtOneEnd(unsafe { transmute::<NonNull<c_void>, StepAtOneEnd>(place) });
+        let step = |end, file| match inner("step.so") {
+            Some(place) => Some(Step::Towards(towards(place), end)),
+            None => inner(file).map(at_one_end),
+        };
+        // SAFETY: the caller's.
+        unsafe {
+            Inner {
+                get: inner("get.so").map(|place| transmute::<NonNull<c_void>, Get>(place)),
+                compare: inner("compare_roots.so").map(|place| transmute::<NonNull<c_void>, Compare>(place)),
+                step_front: step(0, "step_front.so"),
+                step_back: step(1, "step_back.so"),
+            }
+        }
+    }
+}
+
 pub struct Revision {
     /// What the tables call it.
     pub name: &'static str,
     /// By itself, as an earlier revision may lack it.
     pub difference: DifferenceStep,
+    /// How the functions below the test pass what may be missing.
+    pub options: Options,
     functions: &'static Functions,
     inner: Inner,
     /// The folder of a revision's files.
@@ -84,8 +117,8 @@ pub struct Revision {
 
 impl Revision {
     pub fn linked() -> Revision {
-        let (difference, inner) = (DifferenceStep::default(), Inner::default());
-        Revision { name: "ours", difference, functions: &LINKED, inner, folder: PathBuf::new() }
+        let (difference, options, inner) = (DifferenceStep::default(), Options::default(), Inner::default());
+        Revision { name: "ours", difference, options, functions: &LINKED, inner, folder: PathBuf::new() }
     }
 
     /// The objects are never closed: their functions are called until the process ends.
@@ -106,18 +139,13 @@ impl Revision {
             let file = folder.join(file);
             file.exists().then(|| Object::open(&file).place("inner"))
         };
+        // A revision that steps at either end by a function of its own has enums of its own, too.
+        let options = if folder.join("step_front.so").exists() { Options::Own } else { Options::Std };
         // SAFETY: the caller's.
-        let difference = unsafe { DifferenceStep::at(step, inner("next_difference.so")) };
+        let difference = unsafe { DifferenceStep::at(step, inner("next_difference.so"), options) };
         // SAFETY: the caller's.
-        let inner = unsafe {
-            Inner {
-                get: inner("get.so").map(|place| transmute::<NonNull<c_void>, Get>(place)),
-                compare: inner("compare_roots.so").map(|place| transmute::<NonNull<c_void>, Compare>(place)),
-                step_front: inner("step_front.so").map(|place| transmute::<NonNull<c_void>, Step>(place)),
-                step_back: inner("step_back.so").map(|place| transmute::<NonNull<c_void>, Step>(place)),
-            }
-        };
-        Revision { name, difference, functions: Box::leak(Box::new(functions)), inner, folder }
+        let inner = unsafe { Inner::of(inner) };
+        Revision { name, difference, options, functions: Box::leak(Box::new(functions)), inner, folder }
     }
 
     pub fn program(&self) -> PathBuf {
@@ -143,7 +171,7 @@ impl Revision {
         for key in keys {
             // SAFETY: the place is as large as the kit's own; the rest is the caller's.
             unsafe { get(&mut found, words.as_ptr(), words.len(), root, *key) };
-            see((found.nothing == 0).then_some(found.value));
+            see(found.entry(self.options).map(|(_, value)| value));
         }
         Some(())
     }
@@ -156,7 +184,7 @@ impl Revision {
         let compare = self.inner.compare?;
         // SAFETY: the caller's.
         let sign = unsafe { compare(words.as_ptr(), words.len(), roots.0, roots.1) };
-        // `answers::Sign` is less, same, more.
+        // `Ordering`, and `answers::Sign` before it, is less, equal, greater, from 0.
         see(Answer::Word(u32::from(sign).wrapping_sub(1)));
         Some(())
     }
@@ -175,9 +203,10 @@ impl Revision {
         let step = if end == End::Front { self.inner.step_front? } else { self.inner.step_back? };
         let mut found = Found::default();
         for range in ranges {
-            // SAFETY: both places are as large as the kit's own; the rest is the caller's.
-            unsafe { step(&mut found, words.as_ptr(), words.len(), root, range) };
-            see(if found.nothing == 0 { Answer::Entry(found.key, found.value) } else { Answer::Refused(END) });
+            // SAFETY: the caller's.
+            unsafe { step.call(&mut found, words, root, range) };
+            let entry = found.entry(self.options);
+            see(entry.map_or(Answer::Refused(END), |(key, value)| Answer::Entry(key, value)));
         }
         Some(())
     }

@@ -2,7 +2,8 @@
 use crate::above::{self, Questions, Unit};
 use crate::arena::{Arena, Map, Plan};
 use crate::by_size::SIZES;
-use crate::revision::{self, Revision};
+use crate::ranges::Ranges;
+use crate::revision::Revision;
 use common::random::Random;
 use library::call::{self, Answer, Call, END, End, UNBOUNDED, Walk};
 use library::layout::slot;
@@ -24,7 +25,7 @@ struct Steps<'a> {
     end: End,
     walks: Vec<Walk>,
     /// The walks as the functions below the test take them, and as rpds does.
-    ranges: Vec<revision::Range>,
+    ranges: Ranges,
     bounds: Vec<(Bound<u32>, Bound<u32>)>,
 }
 
@@ -41,7 +42,7 @@ impl Steps<'_> {
         };
         let mut random = Random::new(1);
         let walks: Vec<Walk> = (0..MANY).map(|_| whole.stepped(end, keys[from + random.below(to - from)])).collect();
-        let ranges = walks.iter().map(revision::Range::of).collect();
+        let ranges = Ranges::of(&walks);
         let bounds = walks.iter().map(bounds).collect();
         Steps { map: arena.newest_map(), root, end, walks, ranges, bounds }
     }
@@ -70,8 +71,9 @@ impl Questions for Steps<'_> {
     }
 
     fn below(&self, revision: &Revision, words: &[u32], which: Range<usize>, see: impl FnMut(Answer)) -> Option<()> {
+        let ranges = &self.ranges.with(revision.options)[which];
         // SAFETY: calls made the arena and none was refused, and the root is its newest slot's.
-        unsafe { revision.step(words, self.root, (self.end, &self.ranges[which]), see) }
+        unsafe { revision.step(words, self.root, (self.end, ranges), see) }
     }
 
     fn rpds(&self, which: Range<usize>, mut see: impl FnMut(Answer)) -> Option<()> {
