@@ -17,7 +17,7 @@ pub const STACK: usize = MAX_HEIGHT as usize + 1;
 
 // A side: its link, how many numbers its stack has, and the stack. It is lent and never copied, as
 // a stack is 23 words. There is no heap, so the depth stands beside.
-// As a u32 the depth stays in a register: a walk was 20 to 40 % faster than with a usize.
+// As a u32 the depth stays in a register, where a usize was stored at each step of a walk.
 #[derive(Drop)]
 pub struct Side {
     pub link: u32,

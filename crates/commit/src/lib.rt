@@ -1,6 +1,6 @@
 // The commit of a planned tree: its fresh nodes are counted, the kept nodes that it names are
 // counted up, and the fresh ones are made bottom up. Each step takes the plan as `plan` has it: as
-// words, and a link above the arena's nodes for a planned one.
+// words apart from the arena's, and a link above the arena's nodes for a planned one.
 #![tactic(auto)]
 
 ghost use Rattle.commit.specs.Planned.{Countable, Counts, Raisable, Raises, Buildable, Builds};

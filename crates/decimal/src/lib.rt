@@ -67,7 +67,7 @@ pub fn put_text(out: &mut [u8], at: usize, text: &[u8]) -> usize
     next
 }
 
-// Writes the decimal text of the number (RULES 9.5).
+// Writes the decimal text of the number (RULES 9.5). Its parameters stay as at `put_text`.
 #[tactic(auto, using(crate::proofs::Writing::digit_places))]
 pub fn put_number(out: &mut [u8], at: usize, n: u32) -> usize
     requires { HasRoom out.old at (digits n) }

@@ -60,8 +60,8 @@ fn side(d: Node, key: u32) -> u32
     d.right
 }
 
-// The entry with the key, in the version whose root is the link i. The remaining height h is only
-// what falls: no instruction is made of it.
+// The entry with the key, in the version whose root is the link i. The remaining height h is what
+// falls (RULES 13.9), and no instruction is made of it: the descent ends at a link, not at a count.
 pub fn get(ws: &[u32], i: u32, key: u32) -> Option<Entry>
     requires { Rooted ws.now i max_height }
     ensures { Finds ws.now i result (getOf key) }

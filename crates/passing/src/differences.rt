@@ -1,5 +1,5 @@
 // A difference to four lent words, RULES 9.21, and from four what the caller keeps for the next
-// one, RULES 9.22.
+// one, RULES 9.22. The kinds are numbers as C has them.
 ghost use Rattle.std.specs.Prelude.{◌≡◌};
 ghost use Rattle.answers.specs.Answers.{difference_of, difference_answer};
 ghost use Rattle.differing.specs.Positions.{differences_of};

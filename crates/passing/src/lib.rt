@@ -37,7 +37,7 @@ fn pass<const N: usize>(values: Result<[u32; N], Refusal>, out: &mut [u32; N]) -
     }
 }
 
-// It has no words to lend, so it is not `pass`.
+// C lends no words for it, so it is not `pass`.
 pub fn pass_done(a: Result<(), Refusal>) -> u32
     ensures { PassedOn (done_answer a) [] result [] }
 {

@@ -1,4 +1,5 @@
-// A walk from nine lent words: RULES 9.20.
+// A walk from nine lent words: RULES 9.20. The kinds are numbers as C has them, and the conversions
+// are functions, since a crate can write no `From` between types of others.
 ghost use Rattle.std.specs.Prelude.{◌≡◌};
 ghost use Rattle.ranges.specs.Ranges.{bound_of, last_of};
 ghost use Rattle.walking.specs.Walks.{walk_of};

@@ -73,7 +73,8 @@ pub const PLAN_RIGHT_WORD: usize = 4;
 
 pub const PLAN_COLOR_WORD: usize = 5;
 
-// The words of node j of the plan.
+// The words of node j of the plan. It stays beside `arena::node_at`: what the two promise,
+// `IsPlanned` and `IsNode`, are definitions apart.
 pub fn planned(plan: &[u32], j: u32) -> arena::Node
     requires { PlanInside plan.now (j + 1) }
     ensures { IsPlanned plan.now j result }

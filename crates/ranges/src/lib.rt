@@ -65,8 +65,8 @@ fn admits(w: Range, end: End, key: u32) -> bool
     }
 }
 
-// The entry nearest to that end which it has not passed. The remaining height h is only what
-// falls: no instruction is made of it.
+// The entry nearest to that end which it has not passed. The remaining height h is what falls, and
+// no instruction is made of it: the descent ends at a link, not at a count.
 fn dig_towards(ws: &[u32], i: u32, w: Range, end: End) -> Option<Entry>
     requires { Rooted ws.now i max_height }
     ensures { Finds ws.now i result (dug end (range_of w)) }

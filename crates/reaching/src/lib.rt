@@ -97,7 +97,8 @@ fn reach(ws: &[u32], names: &mut [u32], queue: &mut [u32]) -> Option<u32>
     Some(tail)
 }
 
-// Whether link i names a node of count 0.
+// Whether link i names a node of count 0. The words are a plain slice (RULES 13.8), so that this
+// and the next ask for words within their limits.
 fn is_spare(ws: &[u32], i: u32) -> bool
     requires { Within ws.now }
     ensures { Decides result (Spare ws.now i) }

@@ -23,7 +23,8 @@ use soundness::test;
 use std::cmp::Ordering;
 use walking::Walk;
 
-// The test with which every call but format begins: the free number of a sound arena, or UNSOUND.
+// The test with which every call but format and `sound` begins: the free number of a sound arena,
+// or UNSOUND.
 fn tested(ws: &[u32]) -> Result<u32, Refusal>
     ensures ok { IfOk result (λ free. SoundWith ws.now free) }
     ensures err { IfErr result (λ r. (r ≡ Refusal.Unsound) × (Sound ws.now → ⊥)) }

@@ -27,6 +27,7 @@ struct Tally {
     lines: u32,
     differences: u32,
     first: Option<u32>,
+    // A state of the whole list, with no value beside it: an Option would be no plainer.
     finished: bool,
 }
 

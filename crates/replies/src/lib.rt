@@ -52,7 +52,7 @@ fn put_entry(out: &mut [u8], at: usize, key: u32, value: u32) -> usize
     put_last(out, next, value)
 }
 
-// Writes the answer's line.
+// Writes the answer's line. The buffer and the place stay, as `decimal` says at `put_text`.
 pub fn put_reply(out: &mut [u8], at: usize, r: Reply) -> usize
     requires { at + longest ≤ length out.old }
     ensures { Written out.old at (reply r) out.new result }

@@ -29,7 +29,8 @@ fn least_key(ends: &[u32], x: u32, key: u32) -> Option<u32>
     Some(ends[at])
 }
 
-// The greatest, if the keys of the tree at y, to the right, are above.
+// The greatest, if the keys of the tree at y, to the right, are above. It mirrors `least_key` and
+// stays beside it: the key that is tested, the test and the key that is answered all turn round.
 fn greatest_key(ends: &[u32], y: u32, key: u32) -> Option<u32>
     requires { 2 * y + 1 < length ends.now }
     ensures { Ways result (Greatest ends.now y key) ((1 ≤ y → key < get_or ends.now (2 * y) 0) → ⊥) }

@@ -24,7 +24,8 @@ const INSERT_PLAN_WORDS: usize = 341;
 
 const REMOVE_PLAN_WORDS: usize = 886;
 
-// RULES 5.3: "An insert needs H(n) + 1 free nodes".
+// RULES 5.3: "An insert needs H(n) + 1 free nodes". It and the next stay two, each with the sum and
+// the definition of its rule; what they ask of a size is that the height can be had of it.
 fn insert_reserve(size: u32) -> u32
     requires { size < 4294967295 }
     ensures { result ≡ insert_reserve size }
