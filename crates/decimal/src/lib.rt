@@ -47,7 +47,7 @@ pub fn number(line: &[u8], at: usize) -> Option<(u32, usize)>
     number_from(line, at + 1, first)
 }
 
-// The byte of a digit.
+// The byte of a digit. `from_digit` answers an Option of a char, which this would take apart twice.
 fn digit_byte(d: u32) -> u8
     requires { d < 10 }
     ensures { result ≡ digit d }
