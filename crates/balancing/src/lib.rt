@@ -6,7 +6,7 @@ ghost use Rattle.std.specs.Prelude.{◌≡◌};
 ghost use Rattle.trees.specs.Insert.{balance as balanceOf};
 ghost use Rattle.plan.specs.declared.Color.TheVariants.{Black};
 ghost use Rattle.plan.specs.Held.{Some as SomeTree, Room};
-ghost use Rattle.plan.specs.Steps.{Steps};
+ghost use Rattle.plan.specs.Steps.{Steps, StepsFrom};
 ghost use Rattle.balancing.specs.Promises.{balance_room, Rises, Calm};
 
 use plan::Color::{Black, Red};
@@ -89,7 +89,7 @@ fn balance_black(ws: &[u32], plan: &mut [u32], x: Node) -> u32
 }
 
 // RULES 6.18: "`balance` changes a black node only": x is written down with what balances it.
-pub fn balance(ws: &[u32], plan: &mut [u32], x: Node) -> u32
+pub fn balance_node(ws: &[u32], plan: &mut [u32], x: Node) -> u32
     requires room { Room ws.now plan.old balance_room }
     requires some { SomeTree ws.now plan.old x.left }
     requires some_right { SomeTree ws.now plan.old x.right }
@@ -98,5 +98,19 @@ pub fn balance(ws: &[u32], plan: &mut [u32], x: Node) -> u32
     match x.color {
         Black => balance_black(ws, plan, x),
         Red => push(ws, plan, x),
+    }
+}
+
+// `balance` of a node in the arena's words, whose colour may be any word: nothing is made of one
+// that is no colour.
+pub fn balance(ws: &[u32], plan: &mut [u32], words: arena::Node) -> u32
+    requires room { Room ws.now plan.old balance_room }
+    requires some { SomeTree ws.now plan.old words.left }
+    requires some_right { SomeTree ws.now plan.old words.right }
+    ensures { StepsFrom ws.now plan.old plan.new balance_room words result balanceOf }
+{
+    match Node::try_from(words) {
+        Ok(x) => balance_node(ws, plan, x),
+        Err(_) => 0,
     }
 }

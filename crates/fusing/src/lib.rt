@@ -9,7 +9,7 @@ ghost use Rattle.fusing.specs.Promises.{join_room, fuse_room, Twin, Joins, Ends,
 use plan::Color::{Black, Red};
 use plan::{Node, colored, look};
 use planning::{copy, push};
-use rebalancing::remove_balance_left;
+use rebalancing::remove_balance_left_node;
 
 // Two nodes of one colour, and m, to which their inner children were fused: a red one comes between
 // them, any other below.
@@ -31,7 +31,7 @@ fn fuse_join(ws: &[u32], plan: &mut [u32], a: Node, m: u32, b: Node) -> u32
     };
     match a.color {
         Red => push(ws, plan, top),
-        Black => remove_balance_left(ws, plan, top),
+        Black => remove_balance_left_node(ws, plan, top),
     }
 }
 

@@ -10,7 +10,6 @@ use arena::Entry;
 use red_black_tree_map::{
     format, free_nodes, hold, insert, new_version, release, remove, size, sound, step_front,
 };
-use std::fmt;
 use std::ops::Range;
 use walking::Walk;
 
@@ -26,6 +25,9 @@ const ALL_SMALL_STEPS: u32 = 3000;
 
 const LARGE_STEPS: u32 = 2500;
 
+// The random number at the start of a history.
+const SEED: u32 = 2463534242;
+
 // What is counted.
 #[derive(Clone, Copy, Default)]
 struct Counts {
@@ -33,21 +35,6 @@ struct Counts {
     removals: u32,
     refusals: u32,
     differences: u32,
-}
-
-impl fmt::Display for Counts {
-    fn fmt<W: fmt::Write>(&self, f: &mut fmt::Formatter<W>) -> fmt::Result {
-        write!(
-            f,
-            "{} insertions, {} removals, ",
-            self.insertions, self.removals
-        )?;
-        write!(
-            f,
-            "{} refusals, {} differences",
-            self.refusals, self.differences
-        )
-    }
 }
 
 // A history: its arena, its table, whose place k has the value of the k-th key if it has an entry,
@@ -76,23 +63,15 @@ fn next_entry(ws: &[u32], slot: u32, front: Option<u32>) -> Result<Entry, Refusa
 }
 
 impl<const WORDS: usize, const KEYS: usize> History<WORDS, KEYS> {
-    // Makes an empty arena and takes a first version.
-    fn begin(course: Course) -> Self {
-        let mut history = History {
-            course,
-            ws: [0; WORDS],
-            table: [None; KEYS],
-            cur: 0,
-            seed: 2463534242,
-            counts: Counts::default(),
-        };
-        let formatted = format(&mut history.ws, course.nodes, course.slots);
-        history.expect(formatted.is_ok());
-        match new_version(&mut history.ws) {
-            Ok(q) => history.cur = q,
-            Err(_) => history.expect(false),
+    // Makes an empty arena and takes a first version. The history is built where it stays, and lent
+    // here: answered by value its 82 kB stood on the stack three times.
+    fn begin(&mut self) {
+        let formatted = format(&mut self.ws, self.course.nodes, self.course.slots);
+        self.expect(formatted.is_ok());
+        match new_version(&mut self.ws) {
+            Ok(q) => self.cur = q,
+            Err(_) => self.expect(false),
         }
-        history
     }
 
     // Counts a difference unless it is so.
@@ -245,30 +224,56 @@ impl<const WORDS: usize, const KEYS: usize> History<WORDS, KEYS> {
     }
 }
 
-// The small history. A write that fails is let go.
-fn small(rt: &impl Print) {
-    let mut history = History::<SMALL_WORDS, SMALL_KEYS>::begin(SMALL);
-    history.run(0..SMALL_STEPS);
-    let nodes = SMALL.nodes;
-    let _ = println!(rt; "{nodes} nodes: {SMALL_STEPS} steps, {}", history.counts);
-    history.counts.differences = 0;
-    history.run_with_older(SMALL_STEPS..ALL_SMALL_STEPS);
-    let steps = ALL_SMALL_STEPS - SMALL_STEPS;
-    let differences = history.counts.differences;
-    let _ = println!(rt;
-        "{nodes} nodes, an older version held: {steps} steps, {differences} differences"
-    );
+// Writes a number, and then what it counts. A write that fails is let go, and the next is tried.
+fn say(rt: &impl Print, n: u32, what: &[u8]) {
+    let _ = rt.print(n);
+    let _ = rt.write_all(what);
 }
 
-// The large history. A write that fails is let go.
+// Writes what was counted of so many steps.
+fn report(rt: &impl Print, nodes: u32, steps: u32, counts: Counts) {
+    say(rt, nodes, b" nodes: ");
+    say(rt, steps, b" steps, ");
+    say(rt, counts.insertions, b" insertions, ");
+    say(rt, counts.removals, b" removals, ");
+    say(rt, counts.refusals, b" refusals, ");
+    say(rt, counts.differences, b" differences\n");
+}
+
+// The small history.
+fn small(rt: &impl Print) {
+    let mut history = History {
+        course: SMALL,
+        ws: [0; SMALL_WORDS],
+        table: [None; SMALL_KEYS],
+        cur: 0,
+        seed: SEED,
+        counts: Counts::default(),
+    };
+    history.begin();
+    history.run(0..SMALL_STEPS);
+    report(rt, SMALL.nodes, SMALL_STEPS, history.counts);
+    history.counts.differences = 0;
+    history.run_with_older(SMALL_STEPS..ALL_SMALL_STEPS);
+    say(rt, SMALL.nodes, b" nodes, an older version held: ");
+    say(rt, ALL_SMALL_STEPS - SMALL_STEPS, b" steps, ");
+    say(rt, history.counts.differences, b" differences\n");
+}
+
+// The large history.
 fn large(rt: &impl Print) {
-    let mut history = History::<LARGE_WORDS, LARGE_KEYS>::begin(LARGE);
+    let mut history = History {
+        course: LARGE,
+        ws: [0; LARGE_WORDS],
+        table: [None; LARGE_KEYS],
+        cur: 0,
+        seed: SEED,
+        counts: Counts::default(),
+    };
+    history.begin();
     history.run(0..LARGE_STEPS);
     history.end();
-    let _ = println!(rt;
-        "{} nodes: {LARGE_STEPS} steps, {}",
-        LARGE.nodes, history.counts
-    );
+    report(rt, LARGE.nodes, LARGE_STEPS, history.counts);
 }
 
 // Both histories.

@@ -11,7 +11,7 @@ ghost use Rattle.balancing.specs.Promises.{balance_room};
 ghost use Rattle.insertion.specs.Promises.{ins_room, insert_room, News};
 
 use arena::Entry;
-use balancing::balance;
+use balancing::balance_node;
 use plan::Color::{Black, Red};
 use plan::{Node, look};
 use planning::{paint, push};
@@ -32,7 +32,7 @@ fn settle(ws: &[u32], plan: &mut [u32], x: Node, new: bool) -> u32
     ensures { Steps ws.now plan.old plan.new balance_room x result (settleOf (not new)) }
 {
     if new {
-        balance(ws, plan, x)
+        balance_node(ws, plan, x)
     } else {
         push(ws, plan, x)
     }

@@ -47,6 +47,9 @@ module _ {ws : List ℕ} {i h : ℕ} (k : Rooted ws i h) (some_node : i ≡ 0 �
   pub rooted_right : {d : Node} → IsNode ws i d → Rooted ws d.right (h - 1)
   rooted_right d = rw d.right_is (sides k.tree k.reads k.low).1
 
+  -- Either side can be descended into; which one it has to be, the answer shows.
+  pub ruleset rooted_sides = (rooted_left, rooted_right)
+
   pub rooted_toward : {d : Node} {link : ℕ} (end : End) → IsNode ws i d → link ≡ toward end d → Rooted ws link (h - 1)
   rooted_toward Front m e = rw e (rooted_left m)
   rooted_toward Back m e = rw e (rooted_right m)

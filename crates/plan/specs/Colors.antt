@@ -32,6 +32,10 @@ pub record IsNodeOf (d : arena.Node) (x : Node) : Type 0 where
   pub right_is : x.right ≡ d.right
   pub color_is : word_of x.color ≡ d.color
 
+-- The node with these words, or an error where their colour is none.
+abbrev pub NodeDecodes : arena.Node → Result Node NoColor → Type 0
+NodeDecodes d r = MatchResult r (λ x. IsNodeOf d x) (λ e. 1 < d.color)
+
 -- RULES 6.15: "A missing child is neither red nor black." `Some(Color::Red)`, `Some(Color::Black)`.
 abbrev pub is_colored : Color → trees.Tree → Bool
 is_colored Red t = is_red t

@@ -2,6 +2,8 @@
 use Rattle.std.specs.Prelude.{◌≡◌, false, List, ℕ, ◌+◌, ◌≤◌, length, Option, Some, None}
 use Rattle.trees.specs.Tree as trees
 use Rattle.trees.specs.Tree.{fresh, Tree, leaf, node, lf, rt, en}
+use Rattle.words.specs.Layout.{code}
+use Rattle.arena.specs.declared.Node as arena
 use Rattle.arena.specs.Nodes.{entry_of}
 use Rattle.plan.specs.declared.Color.{Color}
 use Rattle.plan.specs.declared.Node.{Node}
@@ -62,6 +64,13 @@ pub record Steps (ws plan plan' : List ℕ) (k : ℕ) (x : Node) (r : ℕ) (f : 
   pub grown : Grown ws plan plan' k
   pub holds : {a b : Tree} → Holds ws plan x.left a → Holds ws plan x.right b →
       Holds ws plan' r (f (node fresh (color_of x.color) a (entry_of x.entry) b))
+
+-- The same step from the words of a node. Of words whose colour is none it only says that what stood
+-- before stands after.
+pub record StepsFrom (ws plan plan' : List ℕ) (k : ℕ) (x : arena.Node) (r : ℕ) (f : Tree → Tree) : Type 0 where
+  pub grown : Grown ws plan plan' k
+  pub holds : {c : trees.Color} {a b : Tree} → x.color ≡ code c → Holds ws plan x.left a → Holds ws plan x.right b →
+      Holds ws plan' r (f (node fresh c a (entry_of x.entry) b))
 
 -- The step that only writes x down.
 abbrev pub itself : Tree → Tree

@@ -5,7 +5,7 @@
 ghost use Rattle.std.specs.Prelude.{◌≡◌, ◌+◌};
 ghost use Rattle.plan.specs.Scratch.{PlanInside, IsPlanned};
 ghost use Rattle.plan.specs.Held.{Some as SomeTree, Room};
-ghost use Rattle.plan.specs.Colors.{word_of, Decodes, HasColor, IsNodeOf};
+ghost use Rattle.plan.specs.Colors.{word_of, Decodes, NodeDecodes, HasColor, IsNodeOf};
 ghost use Rattle.plan.specs.Steps.{Finds, FindsColored};
 
 use arena::{BLACK, Entry, RED, node_at, nodes_of};
@@ -55,6 +55,22 @@ pub struct Node {
     pub color: Color,
 }
 
+impl TryFrom<arena::Node> for Node {
+    type Error = NoColor;
+
+    ghost try_from_gives = { NodeDecodes };
+
+    fn try_from(words: arena::Node) -> Result<Node, NoColor> {
+        let color = Color::try_from(words.color)?;
+        Ok(Node {
+            entry: words.entry,
+            left: words.left,
+            right: words.right,
+            color,
+        })
+    }
+}
+
 // The plan is lent as words, and not as a slice of `Node` with its count: `PlanInside`, `used` and
 // what `planned` promises are about words. What asks for room in it is as `planning` says.
 //
@@ -96,15 +112,10 @@ fn node_of(words: arena::Node) -> Node
     requires { HasColor words }
     ensures { IsNodeOf words result }
 {
-    let Ok(color) = Color::try_from(words.color) else {
+    let Ok(x) = Node::try_from(words) else {
         unreachable!()
     };
-    Node {
-        entry: words.entry,
-        left: words.left,
-        right: words.right,
-        color,
-    }
+    x
 }
 
 // The node at the link, if one is there.

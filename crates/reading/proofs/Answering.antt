@@ -1,6 +1,6 @@
 -- One law for each way in which a reading call returns.
-use Rattle.std.proofs.Common.{◌≡◌, ℕ, List, refl, ap, sym, ◌∙◌, ◌||◌, false}
-use Rattle.std.specs.Prelude.{Option, Some, None, is_some, Result, Ok}
+use Rattle.std.proofs.Common.{◌≡◌, ℕ, List, [], refl, ap, sym, ◌∙◌, ◌||◌, false}
+use Rattle.std.specs.Prelude.{Option, Some, None, is_some, Result, Ok, Err}
 use Rattle.std.proofs.Math.Option as math
 use Rattle.trees.specs.Tree as trees
 use Rattle.trees.specs.Listing as listing
@@ -18,8 +18,15 @@ use Rattle.calls.specs.Outcome.{Outcome}
 use Rattle.calls.proofs.Versions.{version_of, version_fine}
 use Rattle.calls.proofs.ReadingOutcomes.{size_outcome, rescale_mark_outcome, get_outcome, first_outcome, last_outcome}
 use Rattle.answers.specs.declared.Refusal.{Refusal}
+use Rattle.answers.specs.Answers.{refusal_of}
 use Rattle.answers.specs.Entering.{Enters}
+use Rattle.answers.proofs.Entries.{version_refused, named-first}
 use Rattle.answers.proofs.Finding.{slot_held, slot_tree, found_in, by_found}
+
+-- The refusal of the way in, which a lookup hands on.
+pub get_refused : {ws : List ℕ} {s : ℕ} {x : Result ℕ Refusal} → Sound ws → Enters ws s x → {r : Refusal} → x ≡ Err r → (k : ℕ) →
+    Outcome (call.Call.get s k) ws (call.Answer.refused (refusal_of r)) ws
+get_refused {s = s} S g e k = version_refused S g refl (named-first s []) e
 
 module _ {ws : List ℕ} {s i : ℕ} {x : Result ℕ Refusal} (S : Sound ws) (g : Enters ws s x) (e : x ≡ Ok i) where
   pub size_told : {n : ℕ} → n ≡ nodes ws → (z : ℕ) → z ≡ slot_size n ws s → Outcome (call.Call.size s) ws (call.Answer.number z) ws

@@ -5,18 +5,18 @@
 
 ghost use Rattle.trees.specs.Tree.{lf, rt};
 ghost use Rattle.plan.specs.Held.{Some as SomeTree, Room};
-ghost use Rattle.plan.specs.Steps.{Steps};
+ghost use Rattle.plan.specs.Steps.{Steps, StepsFrom};
 ghost use Rattle.turning.specs.Promises.{side_room};
 ghost use Rattle.rebalancing.specs.Promises.{balance_left, balance_right, Leans};
 
 use plan::Color::{Black, Red};
 use plan::{Node, colored};
 use planning::{paint, push};
-use turning::{remove_balance, turn_left, turn_right};
+use turning::{remove_balance_node, turn_left, turn_right};
 
 // The left side is one black level short. What the right side has to be leaves no fourth arm: it is
 // black where it is not red.
-pub fn remove_balance_left(ws: &[u32], plan: &mut [u32], x: Node) -> u32
+pub fn remove_balance_left_node(ws: &[u32], plan: &mut [u32], x: Node) -> u32
     requires room { Room ws.now plan.old side_room }
     requires some { SomeTree ws.now plan.old x.left }
     requires leans { Leans ws.now plan.old x.right lf }
@@ -38,14 +38,14 @@ pub fn remove_balance_left(ws: &[u32], plan: &mut [u32], x: Node) -> u32
             color: Black,
             ..x
         };
-        return remove_balance(ws, plan, y);
+        return remove_balance_node(ws, plan, y);
     };
     turn_left(ws, plan, x, r)
 }
 
 // The right side is one black level short. What the left side has to be leaves no fourth arm: it is
-// black where it is not red. It mirrors `remove_balance_left`, and RULES 6.7 name both.
-pub fn remove_balance_right(ws: &[u32], plan: &mut [u32], x: Node) -> u32
+// black where it is not red. It mirrors the left, and RULES 6.7 name both.
+pub fn remove_balance_right_node(ws: &[u32], plan: &mut [u32], x: Node) -> u32
     requires room { Room ws.now plan.old side_room }
     requires leans { Leans ws.now plan.old x.left rt }
     requires some { SomeTree ws.now plan.old x.right }
@@ -67,7 +67,33 @@ pub fn remove_balance_right(ws: &[u32], plan: &mut [u32], x: Node) -> u32
             color: Black,
             ..x
         };
-        return remove_balance(ws, plan, y);
+        return remove_balance_node(ws, plan, y);
     };
     turn_right(ws, plan, x, l)
+}
+
+// `remove_balance_left` of a node in the arena's words, as `balancing` says of `balance`.
+pub fn remove_balance_left(ws: &[u32], plan: &mut [u32], words: arena::Node) -> u32
+    requires room { Room ws.now plan.old side_room }
+    requires some { SomeTree ws.now plan.old words.left }
+    requires leans { Leans ws.now plan.old words.right lf }
+    ensures { StepsFrom ws.now plan.old plan.new side_room words result balance_left }
+{
+    match Node::try_from(words) {
+        Ok(x) => remove_balance_left_node(ws, plan, x),
+        Err(_) => 0,
+    }
+}
+
+// `remove_balance_right` likewise.
+pub fn remove_balance_right(ws: &[u32], plan: &mut [u32], words: arena::Node) -> u32
+    requires room { Room ws.now plan.old side_room }
+    requires leans { Leans ws.now plan.old words.left rt }
+    requires some { SomeTree ws.now plan.old words.right }
+    ensures { StepsFrom ws.now plan.old plan.new side_room words result balance_right }
+{
+    match Node::try_from(words) {
+        Ok(x) => remove_balance_right_node(ws, plan, x),
+        Err(_) => 0,
+    }
 }

@@ -14,7 +14,7 @@ use fusing::remove_fuse;
 use plan::Color::{Black, Red};
 use plan::{Node, colored, look};
 use planning::{paint, push};
-use rebalancing::{remove_balance_left, remove_balance_right};
+use rebalancing::{remove_balance_left_node, remove_balance_right_node};
 
 // Removes k on the left of x, whose sides are of height h at most.
 #[cycle(del_del_left_del_right)]
@@ -31,7 +31,7 @@ fn del_left(ws: &[u32], plan: &mut [u32], x: Node, k: u32, h: u32) -> u32
         ..x
     };
     if was_black {
-        return remove_balance_left(ws, plan, y);
+        return remove_balance_left_node(ws, plan, y);
     }
     push(ws, plan, y)
 }
@@ -52,7 +52,7 @@ fn del_right(ws: &[u32], plan: &mut [u32], x: Node, k: u32, h: u32) -> u32
         ..x
     };
     if was_black {
-        return remove_balance_right(ws, plan, y);
+        return remove_balance_right_node(ws, plan, y);
     }
     push(ws, plan, y)
 }

@@ -7,11 +7,12 @@ mod expected;
 mod listing;
 mod numbers;
 
+ghost use Rattle.std.specs.Prelude.{◌≤◌, length};
+
 use self::calling::{Code, answered};
 use self::numbers::Line;
 use arena::{MAX_NODES, MAX_SLOTS};
 use red_black_tree_map::format;
-use std::fmt;
 use std::io::Read;
 
 // The words of the largest arena.
@@ -66,19 +67,19 @@ impl Tally {
     }
 }
 
-// What was counted, and where the first difference is.
-impl fmt::Display for Tally {
-    fn fmt<W: fmt::Write>(&self, f: &mut fmt::Formatter<W>) -> fmt::Result {
-        write!(
-            f,
-            "{} calls\n{} differences",
-            self.calls(),
-            self.differences
-        )?;
-        if let Some(line) = self.first {
-            write!(f, "\nthe first at line {line}")?;
-        }
-        Ok(())
+// Writes a number, and then what it counts. A write that fails is let go, and the next is tried.
+fn say(rt: &impl Print, n: u32, what: &[u8]) {
+    let _ = rt.print(n);
+    let _ = rt.write_all(what);
+}
+
+// Writes what was counted, and where the first difference is.
+fn report(rt: &impl Print, tally: &Tally) {
+    say(rt, tally.calls(), b" calls\n");
+    say(rt, tally.differences, b" differences\n");
+    if let Some(line) = tally.first {
+        let _ = rt.write_all(b"the first at line ");
+        say(rt, line, b"\n");
     }
 }
 
@@ -104,7 +105,9 @@ fn replay(text: &[u8]) -> Tally {
 // Reads until the buffer is full, the input ends or a read fails, and gives the bytes that came.
 // (The new form is no plainer: `done` grows by what each read brought, which no `for` counts, and
 // `read_exact` does not say how many bytes came before the end.)
-fn read_full<'a>(input: &mut impl Read, text: &'a mut [u8]) -> &'a [u8] {
+fn read_full<'a>(input: &mut impl Read, text: &'a mut [u8]) -> &'a [u8]
+    ensures { length result.now ≤ length text.old }
+{
     let mut done = 0usize;
     while done < text.len() {
         match input.read(&mut text[done..]) {
@@ -118,6 +121,5 @@ fn read_full<'a>(input: &mut impl Read, text: &'a mut [u8]) -> &'a [u8] {
 fn main(rt: HostRuntime) {
     let mut text = [0u8; BYTES];
     let tally = replay(read_full(&mut rt.stdin(), &mut text));
-    // A write that fails is let go.
-    let _ = println!(rt; "{tally}");
+    report(&rt, &tally);
 }

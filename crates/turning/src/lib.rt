@@ -5,12 +5,12 @@
 
 ghost use Rattle.trees.specs.Remove.{remove_balance};
 ghost use Rattle.plan.specs.Held.{Some as SomeTree, Room};
-ghost use Rattle.plan.specs.Steps.{Looks, Steps};
+ghost use Rattle.plan.specs.Steps.{Looks, Steps, StepsFrom};
 ghost use Rattle.balancing.specs.Promises.{balance_room};
 ghost use Rattle.turning.specs.Promises.{side_room, turned_left, turned_right};
 
 use arena::Entry;
-use balancing::balance;
+use balancing::balance_node;
 use plan::Color::{Black, Red};
 use plan::{Node, colored, look};
 use planning::{paint, push};
@@ -25,7 +25,7 @@ const MISSING: Node = Node {
 
 // RULES 6.29, at a node that its caller has made black: two red children are painted black, else
 // `balance`.
-pub fn remove_balance(ws: &[u32], plan: &mut [u32], x: Node) -> u32
+pub fn remove_balance_node(ws: &[u32], plan: &mut [u32], x: Node) -> u32
     requires room { Room ws.now plan.old balance_room }
     requires some { SomeTree ws.now plan.old x.left }
     requires some_right { SomeTree ws.now plan.old x.right }
@@ -45,7 +45,20 @@ pub fn remove_balance(ws: &[u32], plan: &mut [u32], x: Node) -> u32
             };
             push(ws, plan, top)
         },
-        _ => balance(ws, plan, x),
+        _ => balance_node(ws, plan, x),
+    }
+}
+
+// `remove_balance` of a node in the arena's words, as `balancing` says of `balance`.
+pub fn remove_balance(ws: &[u32], plan: &mut [u32], words: arena::Node) -> u32
+    requires room { Room ws.now plan.old balance_room }
+    requires some { SomeTree ws.now plan.old words.left }
+    requires some_right { SomeTree ws.now plan.old words.right }
+    ensures { StepsFrom ws.now plan.old plan.new balance_room words result remove_balance }
+{
+    match Node::try_from(words) {
+        Ok(x) => remove_balance_node(ws, plan, x),
+        Err(_) => 0,
     }
 }
 
@@ -63,7 +76,7 @@ pub fn turn_left(ws: &[u32], plan: &mut [u32], x: Node, r: Node) -> u32
         color: Black,
         ..r
     };
-    let right = remove_balance(ws, plan, s);
+    let right = remove_balance_node(ws, plan, s);
     let y = Node {
         right: m.left,
         color: Black,
@@ -95,7 +108,7 @@ pub fn turn_right(ws: &[u32], plan: &mut [u32], x: Node, l: Node) -> u32
         color: Black,
         ..l
     };
-    let left = remove_balance(ws, plan, s);
+    let left = remove_balance_node(ws, plan, s);
     let y = Node {
         left: m.right,
         color: Black,

@@ -7,8 +7,8 @@ returns-in-Some c = join_between c.requires.ends c.in-Some.ensures c.push-left.e
 pub returns-in-Red : goal.returns-in-Red
 returns-in-Red c = join_red c.requires.ends c.in_default.ensures c.push-right-2.ensures c.in-Red.is c.push-in-Red.ensures
 
-pub remove_balance_left-requires-clause-leans : goal.remove_balance_left-requires-clause-leans
-remove_balance_left-requires-clause-leans c = join_leans c.requires.ends c.in_default.ensures c.push-right-2.ensures c.in-Black.is
+pub remove_balance_left_node-requires-clause-leans : goal.remove_balance_left_node-requires-clause-leans
+remove_balance_left_node-requires-clause-leans c = join_leans c.requires.ends c.in_default.ensures c.push-right-2.ensures c.in-Black.is
 
 pub returns-in-Black : goal.returns-in-Black
-returns-in-Black c = join_black c.requires.ends c.in_default.ensures c.push-right-2.ensures c.in-Black.is c.remove_balance_left.ensures
+returns-in-Black c = join_black c.requires.ends c.in_default.ensures c.push-right-2.ensures c.in-Black.is c.remove_balance_left_node.ensures

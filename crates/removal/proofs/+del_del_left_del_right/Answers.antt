@@ -29,21 +29,21 @@ del-remove_fuse-requires-clause-twin t c = twin c.in-Some.ensures c.requires.red
 pub del-returns : goal.del-returns
 del-returns t c = del_here c.in-Some.ensures c.requires.red_black (omega arith) (omega arith) c.remove_fuse.ensures
 
-pub del_left-remove_balance_left-requires-clause-leans : goal.del_left-remove_balance_left-requires-clause-leans
-del_left-remove_balance_left-requires-clause-leans t c = right_leans c.requires.sides c.colored.ensures c.if-was_black.ensures c.del-left.ensures.grown
+pub del_left-remove_balance_left_node-requires-clause-leans : goal.del_left-remove_balance_left_node-requires-clause-leans
+del_left-remove_balance_left_node-requires-clause-leans t c = right_leans c.requires.sides c.colored.ensures c.if-was_black.ensures c.del-left.ensures.grown
 
 pub del_left-returns-then-was_black : goal.del_left-returns-then-was_black
-del_left-returns-then-was_black t c = left_black c.args.h c.args.k c.del-left.ensures c.colored.ensures c.if-was_black.ensures c.remove_balance_left.ensures
+del_left-returns-then-was_black t c = left_black c.args.h c.args.k c.del-left.ensures c.colored.ensures c.if-was_black.ensures c.remove_balance_left_node.ensures
 
 -- Here, and not where the side is balanced, the colour of the node above counts.
 pub del_left-returns : goal.del_left-returns
 del_left-returns t c = left_other c.args.h c.args.k c.del-left.ensures c.colored.ensures c.if-was_black.ensures c.push.ensures
 
-pub del_right-remove_balance_right-requires-clause-leans : goal.del_right-remove_balance_right-requires-clause-leans
-del_right-remove_balance_right-requires-clause-leans t c = left_leans c.requires.sides c.colored.ensures c.if-was_black.ensures c.del-right.ensures.grown
+pub del_right-remove_balance_right_node-requires-clause-leans : goal.del_right-remove_balance_right_node-requires-clause-leans
+del_right-remove_balance_right_node-requires-clause-leans t c = left_leans c.requires.sides c.colored.ensures c.if-was_black.ensures c.del-right.ensures.grown
 
 pub del_right-returns-then-was_black : goal.del_right-returns-then-was_black
-del_right-returns-then-was_black t c = right_black c.args.h c.args.k c.del-right.ensures c.colored.ensures c.if-was_black.ensures c.remove_balance_right.ensures
+del_right-returns-then-was_black t c = right_black c.args.h c.args.k c.del-right.ensures c.colored.ensures c.if-was_black.ensures c.remove_balance_right_node.ensures
 
 pub del_right-returns : goal.del_right-returns
 del_right-returns t c = right_other c.args.h c.args.k c.del-right.ensures c.colored.ensures c.if-was_black.ensures c.push.ensures

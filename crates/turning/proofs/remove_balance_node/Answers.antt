@@ -1,6 +1,6 @@
 use Rattle.turning.proofs.Turned.{both_reds, not_left, not_right}
-use Rattle.turning.proofs.remove_balance.Goals.{in_default-via-in-Some+in_default, in_default-via-in_default}
-use Rattle.turning.proofs.remove_balance.Goals as goal
+use Rattle.turning.proofs.remove_balance_node.Goals.{in_default-via-in-Some+in_default, in_default-via-in_default}
+use Rattle.turning.proofs.remove_balance_node.Goals as goal
 
 pub returns-in-Some-Some : goal.returns-in-Some-Some
 returns-in-Some-Some c = search both_reds
