@@ -54,3 +54,11 @@ parts_ranked P =
 pub roots_compared : {ws : List ℕ} {i j : ℕ} {h : Heads} {d : Ordering} → PartsBelow ws i j h → d ≡ option_cmp entry_cmp h.one h.other → Compares ws i j d
 roots_compared {ws} {h = h} B e =
     record { says = λ t u q w. parts_ranked (B.says (nodes ws) t u q w) ∙ sym (rw e (entries_ranked h.one h.other)) }
+
+-- The same by cases: an entry against none, and two entries.
+pub beginning_less : {ws : List ℕ} {i j : ℕ} {h : Heads} {y : Entry} → PartsBelow ws i j h → h.one ≡ None → h.other ≡ Some y → Compares ws i j Less
+beginning_less B a b = roots_compared B (rw (a, b) refl)
+
+pub both_compared : {ws : List ℕ} {i j : ℕ} {h : Heads} {x y : Entry} {d : Ordering} → PartsBelow ws i j h → h.one ≡ Some x → h.other ≡ Some y →
+    d ≡ entry_cmp x y → Compares ws i j d
+both_compared B a b e = roots_compared B (rw (a, b) e)

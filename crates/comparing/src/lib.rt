@@ -17,6 +17,7 @@ use std::cmp::Ordering;
 
 // The order of two versions, by their roots. The entries with which they part decide, key before
 // value; a version that ends there has none, which is less than any.
+#[tactic(auto, using(crate::proofs::Ordering::roots_compared, crate::proofs::Ordering::beginning_less, crate::proofs::Ordering::both_compared))]
 fn compare_roots(ws: &[u32], i: u32, j: u32) -> Ordering
     requires rooted { Rooted ws.now i max_height }
     requires rooted_other { Rooted ws.now j max_height }
