@@ -15,8 +15,8 @@ use arena::{Entry, MAX_HEIGHT, node_at, right_of};
 // RULES 13.5: "no more than 23 numbers", which is one more than the nodes on the longest way down.
 pub const STACK: usize = MAX_HEIGHT as usize + 1;
 
-// A side: its link, how many numbers its stack has, and the stack. It is lent, and no walk copies it,
-// as a stack is 23 words. There is no heap, so the depth stands beside.
+// A side: its link, how many numbers its stack has, and the stack. It is lent, and no walk copies
+// it, as a stack is 23 words. There is no heap, so the depth stands beside.
 // As a u32 the depth stays in a register, where a usize was stored at each step of a walk.
 #[derive(Clone, Copy)]
 pub struct Side {
@@ -106,7 +106,8 @@ fn alike(h: Heads) -> bool
 }
 
 // What both sides begin with alike is passed over, from wherever they stand. Where the sides are a
-// caller's own, their links and depths stay in registers; through a reference each step stores them.
+// caller's own, their links and depths stay in registers; through a reference each step stores
+// them.
 #[inline(always)]
 pub fn walk(ws: &[u32], one: &mut Side, other: &mut Side) -> Heads
     requires stands { Stands ws.now one.old }

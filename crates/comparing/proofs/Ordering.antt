@@ -55,7 +55,7 @@ pub roots_compared : {ws : List ℕ} {i j : ℕ} {h : Heads} {d : Ordering} → 
 roots_compared {ws} {h = h} B e =
     record { says = λ t u q w. parts_ranked (B.says (nodes ws) t u q w) ∙ sym (rw e (entries_ranked h.one h.other)) }
 
--- The same by cases: an entry against none, and two entries.
+-- The same by cases: none against an entry, and two entries.
 pub beginning_less : {ws : List ℕ} {i j : ℕ} {h : Heads} {y : Entry} → PartsBelow ws i j h → h.one ≡ None → h.other ≡ Some y → Compares ws i j Less
 beginning_less B a b = roots_compared B (rw (a, b) refl)
 

@@ -137,6 +137,7 @@ pub fn look(ws: &[u32], plan: &[u32], link: u32) -> Option<Node>
 
 // The node at the link, if one is there and has the colour: what the matches on `Option<Color>` in
 // 000 test.
+#[tactic(auto, using(crate::proofs::Looking::found_none, crate::proofs::Looking::found_colored, crate::proofs::Looking::found_other))]
 pub fn colored(ws: &[u32], plan: &[u32], link: u32, color: Color) -> Option<Node>
     requires room { Room ws.now plan.now 0 }
     requires some { SomeTree ws.now plan.now link }

@@ -71,8 +71,8 @@ pub fn size(ws: &[u32], s: u32) -> Result<u32, Refusal>
     reading::size(ws, s)
 }
 
-// How many nodes are free. The number has a name here, so that an invented one is tried against this
-// contract.
+// How many nodes are free. The number has a name here, so that an invented one is tried against
+// this contract.
 pub fn free_nodes(ws: &[u32]) -> Result<u32, Refusal>
     ensures { Outcome Call.free_nodes ws.now (number_answer result) ws.now }
 {

@@ -59,8 +59,8 @@ fn is_bad_range(start: Bound<u32>, end: Bound<u32>) -> bool
     }
 }
 
-// A step of the walk at that end, RULES 7.4: the entry, or END (4.29) where none is left. Each caller
-// knows the end: as a part of it the step does not ask again at each node.
+// A step of the walk at that end, RULES 7.4: the entry, or END (4.29) where none is left. Each
+// caller knows the end: as a part of it the step does not ask again at each node.
 #[inline(always)]
 pub fn step(ws: &[u32], w: Walk, end: End) -> Result<Entry, Refusal>
     requires { Sound ws.now }
