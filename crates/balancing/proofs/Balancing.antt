@@ -4,10 +4,11 @@ use mathlib.Core.Bool.{true, false, ◌&&◌}
 use mathlib.Core.List.{List}
 use Prim.Native.Nat.{ℕ}
 use native.Mathlib.Omega.{arith}
-use Rattle.std.specs.Prelude.{Some, None}
+use Rattle.std.specs.Prelude.{Option, Some, None}
 use Rattle.trees.specs.Tree.{Entry, red, black, fresh, Tree, node, lf, rt, en, is_red}
 use Rattle.trees.specs.Insert.{risen, balance}
 use Rattle.arena.specs.Nodes.{entry_of}
+use Rattle.plan.specs.declared.Color.{Color}
 use Rattle.plan.specs.declared.Color.TheVariants.{Red, Black}
 use Rattle.plan.specs.declared.Node.{Node}
 use Rattle.plan.specs.Colors.{color_of}
@@ -59,6 +60,10 @@ risen_three s t u = record {
   grown = onward s.grown (onward {k = 2} t.grown u.grown (omega arith)) (omega arith);
   holds = λ ha hb hc hd. u.holds (t.grown.keeps (s.holds ha hb)) (t.holds (s.grown.keeps hc) (s.grown.keeps hd));
 }
+
+-- What was found by a colour that is red, whatever the code calls it.
+pub asked_red : {ws p : List ℕ} {link : ℕ} {c : Color} {o : Option Node} → FindsColored ws p link c o → c ≡ Red → FindsColored ws p link Red o
+asked_red {ws} {p} {link} {c} {o} F e = subst (λ d. FindsColored ws p link d o) e F
 
 -- A red node stands at the link, and what stands at one of its sides decides whether there are two.
 module _ {ws p : List ℕ} {link : ℕ} {t : Tree} where

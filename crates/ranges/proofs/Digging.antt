@@ -1,5 +1,6 @@
 -- A round of the descent towards an end of a range: an entry in range is noted, and the descent
 -- goes on to what is nearer that end, else away from it.
+use mathlib.Core.Logic.{◌⊎◌, inl, inr}
 use Rattle.std.proofs.Common.{◌≡◌, ℕ, ◌-◌, List, Bool, true, false, refl, sym, ap, ◌∙◌}
 use Rattle.std.specs.Option.{option_or}
 use Rattle.std.specs.Prelude.{Option, Some, None}
@@ -55,3 +56,10 @@ module _ {ws : List ℕ} {i at h : ℕ} {noted : Option arena.Entry} (end : End)
 
     pub dig_on : t ≡ false → side ≡ away end d → link ≡ side → next ≡ noted → Leads (dug end w) ws i link (h - 1) next
     dig_on y o l e = rw (l, o, e) (leads_on L (rooted_away L.rooted s end m refl) (dug_away w s m end (sym y ∙ tested)))
+
+  -- A round, whichever of the two ways it went.
+  pub dig_round : {d : Node} {link : ℕ} {next : Option arena.Entry} → (at ≡ 0 → ⊥) → IsNode ws at d →
+      (admits end w d.entry.key ≡ true × link ≡ toward end d × next ≡ Some d.entry) ⊎ (admits end w d.entry.key ≡ false × link ≡ away end d × next ≡ noted) →
+      Leads (dug end w) ws i link (h - 1) next
+  dig_round s m (inl x) = dig_noting s m refl x.0 refl x.1 x.2
+  dig_round s m (inr x) = dig_on s m refl x.0 refl x.1 x.2
