@@ -1,4 +1,5 @@
 use Rattle.std.proofs.Common.{refl, [], ◌∷◌}
+use native.Mathlib.Omega.{arith}
 use Rattle.calls.specs.Call.{Answer}
 use Rattle.answers.proofs.Entries.{named-first, named_second, version_passed, rooted}
 use Rattle.comparing.proofs.Answering.{equal_told}
@@ -17,4 +18,4 @@ compare_roots-requires c =
     record { rooted = rooted c.requires c.enter.ensures c.in_ok-i.was; rooted_other = rooted c.requires c.enter-2.ensures c.in_ok-j.was }
 
 pub returns : goal.returns
-returns c = search (equal_told c.requires c.enter.ensures c.in_ok-i.was c.enter-2.ensures c.in_ok-j.was c.compare_roots.ensures)
+returns c = equal_told c.requires c.enter.ensures c.in_ok-i.was c.enter-2.ensures c.in_ok-j.was c.compare_roots.ensures _ (grind arith)
