@@ -2,3 +2,4 @@ pub mod Holdings
 pub mod Growing
 pub mod Looking
 pub mod Sounding
+pub mod Worded
